@@ -1,0 +1,14 @@
+// Runs the cases of document 01 that are executed and not proved, and prints what came out. The gate
+// compares it with the file stdout.
+mod ring_cases;
+mod text;
+
+fn main() {
+    ring_cases::lengths();
+    ring_cases::states();
+    ring_cases::order();
+    ring_cases::rooms();
+    ring_cases::wrap_around();
+    ring_cases::other_bytes();
+    ring_cases::long();
+}

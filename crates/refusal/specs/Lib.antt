@@ -1,0 +1,75 @@
+-- 'What is refused' of document 01: the number of each refusal, and which of several applies.
+use Prim.Native.Nat.{ℕ}
+use mathlib.Core.Bool.{Bool, true, false}
+use Rattle.refusal.specs.declared.Refusal.{Refusal}
+use Rattle.refusal.specs.declared.Refusal.the-variants.{TrailerMissing, MarkOrFormat, TrailerFields, VerdictOrPasses, ProgramLength, FunctionCount, HeaderCut, ParameterKinds, BodyLength, BytesAfterFunctions, MainKind, BodyEnds, TooDeep, ListConstructor, UnknownByte, WrongKind, BytesAfterExpression, RingLength, RingState, TraceLength, TableShort, OutputShort}
+use Rattle.refusal.specs.declared.Check.{Check}
+use Rattle.refusal.specs.declared.Check.the-variants.{Passed, Refused}
+
+-- the number in the list 'What is refused'
+abbrev pub numberOf : Refusal → ℕ
+-- fewer than eight bytes remain for a trailer
+numberOf TrailerMissing = 1
+-- the mark is not 0x52 or the format is not 1
+numberOf MarkOrFormat = 2
+-- n is above 4,095, or a distance does not fit
+numberOf TrailerFields = 3
+-- the verdict byte is above 4 or the pass count is 0
+numberOf VerdictOrPasses = 4
+-- the program is empty or longer than 4,096 bytes
+numberOf ProgramLength = 5
+-- the function count is 0 or above 32
+numberOf FunctionCount = 6
+-- fewer than four bytes remain for a header
+numberOf HeaderCut = 7
+-- the parameter count is above 4, or a kind bit is set for an absent parameter or among bits 5 to 7
+numberOf ParameterKinds = 8
+-- the body length is 0, above 1,024 or above what remains
+numberOf BodyLength = 9
+-- bytes remain after the last function
+numberOf BytesAfterFunctions = 10
+-- function 0 is not of main's kind
+numberOf MainKind = 11
+-- the body ends where a node is due
+numberOf BodyEnds = 12
+-- a node would be the 65th in depth
+numberOf TooDeep = 13
+-- the byte is 0x24
+numberOf ListConstructor = 14
+-- the byte is not in the table, or names an absent parameter or function
+numberOf UnknownByte = 15
+-- the node's kind is not the one its place demands
+numberOf WrongKind = 16
+-- bytes remain in the body after its expression
+numberOf BytesAfterExpression = 17
+-- the ring slice is empty or longer than 4,095
+numberOf RingLength = 18
+-- the ring's next place is not below its length, or its count is above it
+numberOf RingState = 19
+-- a lent trace has n above 4,095 or not n / 8 rounded up bytes
+numberOf TraceLength = 20
+-- the cells needed exceed the lent table or 16,777,216
+numberOf TableShort = 21
+-- the output is shorter than what is to be written
+numberOf OutputShort = 22
+
+-- the number of a check's answer; 0 stands for no refusal
+abbrev pub checkNumber : Check → ℕ
+checkNumber Passed = 0
+checkNumber (Refused f) = numberOf f
+
+-- one entry of the list: the refusal, where what it names is the case
+abbrev pub refuseIf : Bool → Refusal → Check
+refuseIf true f = Refused f
+refuseIf false f = Passed
+
+-- 'in rising order': the first check that refuses decides
+infixr 20 _then_
+abbrev pub _then_ : Check → Check → Check
+_then_ Passed next = next
+_then_ (Refused f) next = Refused f
+
+-- what an operation leaves: the new content where nothing is refused; 'a refusal changes neither lent memory nor state'
+abbrev pub changedIf : {A : Type 0} → Check → A → A → A
+changedIf Passed new old = new
+changedIf (Refused f) new old = old

@@ -1,0 +1,47 @@
+// Traces: samples packed into bytes, oldest first, eight to a byte from its lowest bit. Reading and
+// writing one sample is defined for every index; past the bytes nothing is read or written.
+ghost use mathlib.Core.Path.{_≡_};
+ghost use Prim.Native.Nat.{_<_};
+ghost use Rattle.trace.specs.{bytesFor, sampleAt, withBit, withSample};
+
+// The most samples that a trace or a ring has.
+pub const MOST_SAMPLES: usize = 4095;
+
+// The bytes that n samples take.
+pub fn bytes_for(n: usize) -> usize
+    ensures { λ r. ⌜ r ≡ bytesFor n ⌝ }
+{
+    if n % 8 == 0 { n / 8 } else { n / 8 + 1 }
+}
+
+// Sample i, and false past the bytes.
+pub fn sample(bytes: &[u8], i: usize) -> bool
+    ensures { λ r. ⌜ r ≡ sampleAt (now (bytes .entry)) i ⌝ }
+{
+    let at = i / 8;
+    if bytes.len() <= at {
+        return false;
+    }
+    (bytes[at] >> (i % 8)) % 2 == 1
+}
+
+// Writes sample i. The samples before it stay as they are; the bits above it in its byte become 0.
+pub fn write(bytes: &mut [u8], i: usize, sample: bool)
+    ensures { λ _. ⌜ now (bytes .exit) ≡ withSample (now (bytes .entry)) i sample ⌝ }
+{
+    let at = i / 8;
+    if bytes.len() <= at {
+        return;
+    }
+    bytes[at] = placed(bytes[at], i % 8, sample);
+}
+
+// A byte with bit k as the sample has it: the lower bits stay, the bits above become 0.
+fn placed(byte: u8, k: usize, sample: bool) -> u8
+    requires { ⌜ k < 8 ⌝ }
+    ensures { λ r. ⌜ r ≡ withBit k byte sample ⌝ }
+{
+    let weight = 1u8 << k;
+    let below = byte % weight;
+    if sample { below + weight } else { below }
+}
