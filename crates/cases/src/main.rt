@@ -1,6 +1,7 @@
 // Runs the cases of document 01 that are executed and not proved, and prints what came out. The gate
 // compares it with the file stdout.
 mod ring_cases;
+mod rule_cases;
 mod text;
 
 fn main() {
@@ -11,4 +12,9 @@ fn main() {
     ring_cases::wrap_around();
     ring_cases::other_bytes();
     ring_cases::long();
+    rule_cases::rows();
+    rule_cases::counts();
+    rule_cases::nodes();
+    rule_cases::priorities();
+    rule_cases::depths();
 }

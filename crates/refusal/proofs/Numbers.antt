@@ -1,6 +1,7 @@
 -- Laws of the refusals' numbers:
 --   number-injective       two refusals with the same number are the same
 --   check-injective        two checks with the same number are the same; 0 is no refusal's number
+--   refused-same           two checks that refuse are the same by their refusals
 --   refused                a check that refuses has not passed
 use Prim.Native.Nat.{ℕ, zero, suc}
 use mathlib.Core.Path.{_≡_, refl, sym, ap, _∙_}
@@ -59,8 +60,16 @@ passes (Refused f) = 1
 pub check-injective : (c d : Check) → checkNumber c ≡ checkNumber d → c ≡ d
 check-injective c d e = sym (check-back c) ∙ ap checkOf e ∙ check-back d
 
+-- the refusal that a check holds
+abbrev refusalIn : Refusal → Check → Refusal
+refusalIn z Passed = z
+refusalIn z (Refused f) = f
+
+pub refused-same : {f g : Refusal} → Refused f ≡ Refused g → f ≡ g
+refused-same {f} e = ap (refusalIn f) e
+
 pub number-injective : (f g : Refusal) → numberOf f ≡ numberOf g → f ≡ g
-number-injective f g e = let same : Refused f ≡ Refused g = check-injective (Refused f) (Refused g) e in cc
+number-injective f g e = refused-same (check-injective (Refused f) (Refused g) e)
 
 pub refused : {f : Refusal} → Refused f ≡ Passed → ⊥
 refused e = let clash : _≡_ {A = ℕ} 0 1 = ap passes (sym e) in absurd (omega arith)

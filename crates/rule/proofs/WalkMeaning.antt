@@ -1,0 +1,191 @@
+-- The walk over positions of a body comes to what the reading of its bytes says:
+--   walked                 what a reading is as a walk
+--   Framed                 a frame that fits the headers of a program
+--   Step                   a walk and a reading that agree, the bytes after what was read being those at the place after it
+--   kind-bit               a kind as a bit
+--   ownOf                  the kinds of a frame's own parameters
+--   expr-step, expr-walk   expressions
+use mathlib.Core.Path.{_≡_, refl, ap, _∙_}
+use mathlib.Core.Bool.{Bool, true, false}
+use mathlib.Core.List.{List, [], _∷_}
+use mathlib.Core.Option.{Option, none, some}
+use Prim.Native.Nat.{ℕ, zero, suc, _+_, _-_, _<_, _≤_}
+use native.Mathlib.Nat.{zero-add}
+use native.Mathlib.Numerals.{add-one}
+use native.Mathlib.Omega.{arith}
+use lib.Dec.{ltb, leb}
+use lib.ListN.{length, getElem?, getD, drop, length-drop, drop-of-length-le}
+use lib.Seq.{drop-cons}
+use borrow.Author.Tests.{lt-ltb, le-leb, lt-leb, ltb-true, ltb-false, leb-true, leb-false}
+use Rattle.refusal.specs.declared.Refusal.{Refusal}
+use Rattle.refusal.specs.declared.Refusal.the-variants.{BodyEnds, TooDeep, UnknownByte}
+use Rattle.trace.specs.{bitOf}
+use Rattle.semantics.specs.Language.{Kind, truth, list, Op, hd, tl, null, Expr, param, op, ifte, call, arg, opKind}
+use Rattle.semantics.specs.Table.{pick}
+use Rattle.rule.specs.declared.Node.{Node}
+use Rattle.rule.specs.declared.Node.the-variants as node
+use Rattle.rule.specs.declared.Header.{Header}
+use Rattle.rule.specs.declared.expression.Walked.{Walked}
+use Rattle.rule.specs.declared.expression.Walked.the-variants.{Past, Refused}
+use Rattle.rule.specs.Form.{mostParams, isList}
+use Rattle.rule.specs.Reading.{Parsed, got, refused, onward, kindAt, kindsFrom, resultKind, demanded, argsFrom, paramFrom, callFrom, opFrom, ifFrom, nodeOf, nodeFrom, exprFrom}
+use Rattle.rule.specs.Walk.{few, ofDemand, leafAt, paramAt, after, Frame, argsAt, armsBy, callBy, nodeBy, checkAt}
+use Rattle.rule.proofs.Expressions.{place-below}
+
+-- what a reading of the rest of so many bytes is as a walk
+abbrev pub walked : ℕ → Parsed Expr → Walked
+walked len (got e rest) = Past (len - length rest)
+walked len (refused f) = Refused f
+
+-- the frame has the headers of a program, whose counts are not refused
+pub record Framed (H : List Header) (F : Frame) : Type 0 where
+  pub count : F .functions ≡ length H
+  pub heads : (g : ℕ) (h : Header) → getElem? H g ≡ some h → (getD (F .params) g 0 ≡ h .params) × (getD (F .kinds) g 0 ≡ h .kinds) × (h .params ≤ mostParams)
+
+-- ---- Kinds as bits
+
+pub kind-bit : (k i : ℕ) → isList (kindAt k i) ≡ bitOf i k
+kind-bit k i = go (bitOf i k)
+  where
+    go : (b : Bool) → isList (pick b list truth) ≡ b
+    go true = refl
+    go false = refl
+
+-- the kind of a parameter that is there
+kind-there : (k i n j : ℕ) → j < n → getElem? (kindsFrom k i n) j ≡ some (kindAt k (i + j))
+unfolding kindsFrom
+kind-there k i zero j h = absurd (omega arith)
+kind-there k i (suc n) zero h = let e : i ≡ i + 0 = omega arith in ap (λ (m : ℕ). some (kindAt k m)) e
+kind-there k i (suc n) (suc j) h = let e : suc i + j ≡ i + suc j = omega arith in kind-there k (suc i) n j (omega arith) ∙ ap (λ (m : ℕ). some (kindAt k m)) e
+
+kind-absent : (k i n j : ℕ) → n ≤ j → getElem? (kindsFrom k i n) j ≡ none
+unfolding kindsFrom
+kind-absent k i zero j h = refl
+kind-absent k i (suc n) zero h = absurd (omega arith)
+kind-absent k i (suc n) (suc j) h = kind-absent k (suc i) n j (omega arith)
+
+few-few : (n : ℕ) → n ≤ mostParams → few n ≡ n
+few-few n h = rw (lt-ltb n 5 (omega arith))
+
+-- where no element stands the list has ended
+absent-above : {A : Type 0} (l : List A) (i : ℕ) → getElem? l i ≡ none → length l ≤ i
+absent-above [] i e = omega arith
+absent-above (x ∷ l) zero e = let z : _≡_ {A = ℕ} 0 1 = cc in absurd (omega arith)
+absent-above (x ∷ l) (suc i) e = omega (arith, absent-above l i e)
+
+-- ---- Walks and readings that agree
+
+pub data Step {A : Type 0} (body : List ℕ) : Walked → Parsed A → Type 0 where
+  went : (a : A) (to : ℕ) → to ≤ length body → Step body (Past to) (got a (drop to body))
+  stopped : (f : Refusal) → Step body (Refused f) (refused f)
+
+module _ {body : List ℕ} where
+  -- one after the other
+  step-onward : {A B : Type 0} {w : Walked} {p : Parsed A} (k : ℕ → Walked) (l : A → List ℕ → Parsed B) → Step body w p
+      → ((a : A) (to : ℕ) → to ≤ length body → Step body (k to) (l a (drop to body))) → Step body (after w k) (onward p l)
+  step-onward k l (went a to h) more = more a to h
+  step-onward k l (stopped f) more = stopped f
+
+  -- what was read as a part of something more
+  step-part : {A B : Type 0} {w : Walked} {p : Parsed A} (f : A → B) → Step body w p → Step body w (onward p (λ a rest. got (f a) rest))
+  step-part f (went a to h) = went (f a) to h
+  step-part f (stopped r) = stopped r
+
+  step-demanded : {A : Type 0} {w : Walked} {p : Parsed A} (κ κ′ : Kind) → Step body w p → Step body (ofDemand (isList κ) (isList κ′) w) (demanded κ κ′ p)
+  step-demanded truth truth s = s
+  step-demanded truth list s = stopped _
+  step-demanded list truth s = stopped _
+  step-demanded list list s = s
+
+  step-walked : {w : Walked} {p : Parsed Expr} → Step body w p → w ≡ walked (length body) p
+  step-walked (went e to h) = let same : to ≡ length body - length (drop to body) = omega (arith, length-drop to body) in ap Past same
+  step-walked (stopped f) = refl
+
+  -- a leaf
+  leaf-step : {A : Type 0} (κ κ′ : Kind) (a : A) (at : ℕ) → at ≤ length body → Step body (leafAt (isList κ) (isList κ′) at) (demanded κ κ′ (got a (drop at body)))
+  unfolding leafAt
+  leaf-step κ κ′ a at h = step-demanded κ κ′ (went a at h)
+
+-- ---- Nodes, over a walk and a reading of operands that agree
+
+-- the kinds of the parameters of the function whose body it is
+abbrev pub ownOf : Frame → List Kind
+ownOf F = kindsFrom (F .ownKinds) 0 (F .ownParams)
+
+module _ (H : List Header) (F : Frame) (fits : Framed H F) where
+  module _ (walk : Bool → ℕ → Walked) (read : Kind → List ℕ → Parsed Expr)
+      (agree : (κ : Kind) (at : ℕ) → at ≤ length (F .body) → Step (F .body) (walk (isList κ) at) (read κ (drop at (F .body)))) where
+    -- the place of an argument demands what its bit says
+    bit-step : (k i at : ℕ) → at ≤ length (F .body) → Step (F .body) (walk (bitOf i k) at) (read (kindAt k i) (drop at (F .body)))
+    bit-step k i at h = rw (kind-bit k i) at (agree (kindAt k i) at h)
+
+    args-step : (k n i at : ℕ) → at ≤ length (F .body) → Step (F .body) (argsAt walk k n i at) (argsFrom read (kindsFrom k i n) (drop at (F .body)))
+    unfolding argsAt argsFrom kindsFrom
+    args-step k zero i at h = went _ at h
+    args-step k (suc n) i at h =
+        step-onward (argsAt walk k n (i + 1)) _ (bit-step k i at h)
+        (λ e to l. rw (add-one i) (step-part (arg e) (args-step k n (suc i) to l)))
+
+    param-step : (κ : Kind) (i at : ℕ) → at ≤ length (F .body) → Step (F .body) (paramAt (F .ownParams) (F .ownKinds) (isList κ) i at) (paramFrom (getElem? (ownOf F) i) κ i (drop at (F .body)))
+    unfolding paramAt
+    param-step κ i at h = go (ltb i (F .ownParams)) refl
+      where
+        go : (t : Bool) → ltb i (F .ownParams) ≡ t → Step (F .body) (pick t (leafAt (isList κ) (bitOf i (F .ownKinds)) at) (Refused UnknownByte)) (paramFrom (getElem? (ownOf F) i) κ i (drop at (F .body)))
+        go true e =
+            rw (kind-there (F .ownKinds) 0 (F .ownParams) i (ltb-true _ _ e), zero-add i)
+            (rw (kind-bit (F .ownKinds) i) at (leaf-step {body = F .body} κ (kindAt (F .ownKinds) i) (param i) at h))
+        go false e = rw (kind-absent (F .ownKinds) 0 (F .ownParams) i (ltb-false _ _ e)) (stopped UnknownByte)
+
+    call-step : (κ : Kind) (g at : ℕ) → at ≤ length (F .body) → Step (F .body) (callBy F walk (isList κ) at g) (callFrom (getElem? H g) read κ g (drop at (F .body)))
+    call-step κ g at h = go (getElem? H g) refl
+      where
+        go : (found : Option Header) → getElem? H g ≡ found → Step (F .body) (callBy F walk (isList κ) at g) (callFrom found read κ g (drop at (F .body)))
+        go none e = rw (fits .count, le-leb _ _ (absent-above H g e)) (stopped UnknownByte)
+        go (some x) e =
+            let head = fits .heads g x e in
+            rw (fits .count, lt-leb _ _ (place-below H g x e), head .0, head .1, few-few (x .params) (head .2))
+            (rw (kind-bit (x .kinds) 4) at (step-demanded κ (resultKind x) (step-part (call g) (args-step (x .kinds) (x .params) 0 at h))))
+
+    if-step : (κ : Kind) (at : ℕ) → at ≤ length (F .body) → Step (F .body) (armsBy walk (isList κ) at) (ifFrom read κ (drop at (F .body)))
+    if-step κ at h =
+        step-onward _ _ (agree truth at h) (λ c to l.
+        step-onward _ _ (agree κ to l) (λ a to′ l′.
+        step-part (ifte c a) (agree κ to′ l′)))
+
+    op-step : (p : Op) (κ : Kind) (at : ℕ) → at ≤ length (F .body) → Step (F .body) (ofDemand (isList κ) (isList (opKind p)) (walk true at)) (opFrom p read κ (drop at (F .body)))
+    op-step p κ at h = step-demanded κ (opKind p) (step-part (op p) (agree list at h))
+
+    node-step : (κ : Kind) (at : ℕ) → at ≤ length (F .body) → (n : Node) → Step (F .body) (nodeBy F walk (isList κ) at n) (nodeFrom H (ownOf F) read κ n (drop at (F .body)))
+    node-step κ at h node.False = leaf-step κ truth _ at h
+    node-step κ at h node.True = leaf-step κ truth _ at h
+    node-step κ at h node.Empty = leaf-step κ list _ at h
+    node-step κ at h (node.Param i) = param-step κ i at h
+    node-step κ at h node.Head = op-step hd κ at h
+    node-step κ at h node.Tail = op-step tl κ at h
+    node-step κ at h node.Null = op-step null κ at h
+    node-step κ at h node.If = if-step κ at h
+    node-step κ at h node.Cons = stopped _
+    node-step κ at h (node.Call g) = call-step κ g at h
+    node-step κ at h node.Unknown = stopped _
+
+  pub expr-step : (d : ℕ) (κ : Kind) (at : ℕ) → at ≤ length (F .body) → Step (F .body) (checkAt F d (isList κ) at) (exprFrom H (ownOf F) d κ (drop at (F .body)))
+  unfolding checkAt exprFrom
+  expr-step zero κ at h = go (leb (length (F .body)) at) refl
+    where
+      go : (t : Bool) → leb (length (F .body)) at ≡ t → Step (F .body) (pick t (Refused BodyEnds) (Refused TooDeep)) (exprFrom H (ownOf F) zero κ (drop at (F .body)))
+      go true e = rw (drop-of-length-le (F .body) (leb-true _ _ e)) (stopped BodyEnds)
+      go false e = rw (drop-cons (F .body) at 0 (leb-false _ _ e)) (stopped TooDeep)
+  expr-step (suc d) κ at h = go (leb (length (F .body)) at) refl (λ κ′ to l. expr-step d κ′ to l)
+    where
+      Deeper : Type 0
+      Deeper = (κ′ : Kind) (to : ℕ) → to ≤ length (F .body) → Step (F .body) (checkAt F d (isList κ′) to) (exprFrom H (ownOf F) d κ′ (drop to (F .body)))
+
+      go : (t : Bool) → leb (length (F .body)) at ≡ t → Deeper → Step (F .body) (pick t (Refused BodyEnds) (nodeBy F (checkAt F d) (isList κ) (at + 1) (nodeOf (getD (F .body) at 0)))) (exprFrom H (ownOf F) (suc d) κ (drop at (F .body)))
+      go true e deeper = rw (drop-of-length-le (F .body) (leb-true _ _ e)) (stopped BodyEnds)
+      go false e deeper =
+          let within : suc at ≤ length (F .body) = leb-false _ _ e in
+          rw (drop-cons (F .body) at 0 within, add-one at) (node-step (checkAt F d) (λ κ′ rest. exprFrom H (ownOf F) d κ′ rest) deeper κ (suc at) within (nodeOf (getD (F .body) at 0)))
+
+pub expr-walk : (H : List Header) (F : Frame) → Framed H F → (d : ℕ) (κ : Kind) (at : ℕ) → at ≤ length (F .body)
+    → checkAt F d (isList κ) at ≡ walked (length (F .body)) (exprFrom H (ownOf F) d κ (drop at (F .body)))
+expr-walk H F fits d κ at h = step-walked (expr-step H F fits d κ at h)

@@ -1,0 +1,20 @@
+-- `leaf` meets its contract, by its two cases.
+use mathlib.Core.Path.{sym, _∙_}
+use borrow.Author.Needs.{needs}
+use Rattle.rule.specs.Walk.{leafAt}
+use Rattle.rule.proofs.expression.leaf.Statement.{statement}
+use Rattle.rule.proofs.expression.leaf.Tie as tie
+
+alike-requires : tie.Need-alike-requires
+alike-requires c κs = search needs
+
+returns : tie.Need-returns
+unfolding leafAt
+returns c = simp (sym (c .before .alike .ensures) ∙ c .if1 .taken)
+
+returns-2 : tie.Need-returns-2
+unfolding leafAt
+returns-2 c = simp (sym (c .before .alike .ensures) ∙ c .if1 .left)
+
+pub leaf-spec : {M : Type 1} → statement M
+leaf-spec = tie.close (tie.spec alike-requires returns returns-2)

@@ -1,0 +1,205 @@
+// A program's functions: the headers one after the other, main's kind, then the bodies; 7 to 11 and 17
+// of the list.
+use crate::Checked;
+use crate::HeaderRead;
+use crate::Layout;
+use crate::expression;
+use crate::expression::Walked;
+use crate::headers;
+use refusal::Check;
+use refusal::Refusal;
+ghost use mathlib.Core.Path.{_≡_};
+ghost use Prim.Native.Nat.{_≤_};
+ghost use mathlib.Core.List.{[]};
+ghost use lib.ListN.{length, drop};
+ghost use Rattle.rule.specs.Reading.{onward, rawsFrom, bodiesFrom};
+ghost use Rattle.rule.specs.Layout.{layoutOf, checkedFrom};
+ghost use Rattle.rule.specs.Walk.{frame, frameAt, mainBits, bodyAt, bodiesAt, Placed, Counted, scanFrom};
+
+// Checks the functions of a program of so many.
+pub fn check_functions(program: &[u8], count: u8) -> Checked
+    requires { ⌜ Counted (now program) count ⌝ }
+    ensures { λ r. ⌜ r ≡ checkedFrom (onward (rawsFrom count (drop 1 (now (program .entry)))) bodiesFrom) ⌝ }
+{
+    let scan = scan_headers(program, count);
+    let check = scan.check;
+    match check {
+        Check::Refused(refusal) => refused(refusal),
+        Check::Passed => {
+            if scan.end < program.len() {
+                return refused(Refusal::BytesAfterFunctions);
+            }
+            let layout = scan.layout;
+            let params = layout.params;
+            let kinds = layout.kinds;
+            if is_main(params[0], kinds[0]) {
+                let starts = layout.starts;
+                let ends = layout.ends;
+                match check_bodies(program, count, &params, &kinds, &starts, &ends) {
+                    Check::Refused(refusal) => refused(refusal),
+                    Check::Passed => Checked {
+                        check: Check::Passed,
+                        layout,
+                    },
+                }
+            } else {
+                refused(Refusal::MainKind)
+            }
+        }
+    }
+}
+
+// A refusal, with the layout of no functions.
+pub fn refused(refusal: Refusal) -> Checked
+    ensures { λ r. ⌜ (r .check ≡ Check.Refused refusal) × (r .layout ≡ layoutOf []) ⌝ }
+{
+    Checked {
+        check: Check::Refused(refusal),
+        layout: no_functions(),
+    }
+}
+
+// The layout of no functions.
+fn no_functions() -> Layout
+    ensures { λ r. ⌜ r ≡ layoutOf [] ⌝ }
+{
+    Layout {
+        functions: 0,
+        params: [0; 32],
+        kinds: [0; 32],
+        starts: [0; 32],
+        ends: [0; 32],
+    }
+}
+
+// What the headers come to: a refusal, or where the functions stand and the place after the last.
+pub struct Scan {
+    pub check: Check,
+    pub layout: Layout,
+    pub end: usize,
+}
+
+// Reads so many headers, each after the body of the one before.
+fn scan_headers(program: &[u8], count: u8) -> Scan
+    requires { ⌜ Counted (now program) count ⌝ }
+    ensures { λ r. ⌜ r ≡ scanFrom (length (now (program .entry))) (rawsFrom count (drop 1 (now (program .entry)))) ⌝ }
+{
+    let n = count as usize;
+    let mut params = [0u8; 32];
+    let mut kinds = [0u8; 32];
+    let mut starts = [0u16; 32];
+    let mut ends = [0u16; 32];
+    let mut at: usize = 1;
+    let mut i: usize = 0;
+    while i < n {
+        match headers::header_at(program, at) {
+            HeaderRead::Refused(refusal) => {
+                return Scan {
+                    check: Check::Refused(refusal),
+                    layout: no_functions(),
+                    end: 0,
+                };
+            }
+            HeaderRead::Found(header) => {
+                let start = at + 4;
+                let end = start + (header.length as usize);
+                params[i] = header.params;
+                kinds[i] = header.kinds;
+                starts[i] = start as u16;
+                ends[i] = end as u16;
+                at = end;
+            }
+        }
+        i += 1;
+    }
+    Scan {
+        check: Check::Passed,
+        layout: Layout {
+            functions: count,
+            params,
+            kinds,
+            starts,
+            ends,
+        },
+        end: at,
+    }
+}
+
+// Whether a header is main's: one list parameter, Bool result.
+fn is_main(params: u8, kinds: u8) -> bool
+    ensures { λ r. ⌜ r ≡ mainBits params kinds ⌝ }
+{
+    if params == 1 {
+        if expression::bit(kinds, 0) {
+            !expression::bit(kinds, 4)
+        } else {
+            false
+        }
+    } else {
+        false
+    }
+}
+
+// Checks the bodies, the first function's first.
+fn check_bodies(
+    program: &[u8],
+    count: u8,
+    params: &[u8; 32],
+    kinds: &[u8; 32],
+    starts: &[u16; 32],
+    ends: &[u16; 32],
+) -> Check
+    requires { ⌜ Placed (length (now program)) count (now params) (now starts) (now ends) ⌝ }
+    ensures { λ r. ⌜ r ≡ bodiesAt (frameAt (now (program .entry)) count (now (params .entry)) (now (kinds .entry)) (now (starts .entry)) (now (ends .entry))) count 0 ⌝ }
+{
+    let n = count as usize;
+    let mut i: usize = 0;
+    while i < n {
+        let start = starts[i] as usize;
+        let end = ends[i] as usize;
+        let body = &program[start..end];
+        match check_body(body, count, params, kinds, params[i], kinds[i]) {
+            Check::Refused(refusal) => {
+                return Check::Refused(refusal);
+            }
+            Check::Passed => {}
+        }
+        i += 1;
+    }
+    Check::Passed
+}
+
+// Checks one body: an expression of the result kind, and nothing after it.
+fn check_body(
+    body: &[u8],
+    functions: u8,
+    params: &[u8; 32],
+    kinds: &[u8; 32],
+    own_params: u8,
+    own_kinds: u8,
+) -> Check
+    requires { ⌜ (functions ≤ 32) × («own_params» ≤ 4) ⌝ }
+    ensures { λ r. ⌜ r ≡ bodyAt (frame (now (body .entry)) functions (now (params .entry)) (now (kinds .entry)) «own_params» «own_kinds») ⌝ }
+{
+    let list = expression::bit(own_kinds, 4);
+    match expression::check(
+        body,
+        functions,
+        params,
+        kinds,
+        own_params,
+        own_kinds,
+        list,
+        crate::MOST_DEPTH,
+        0,
+    ) {
+        Walked::Past(end) => {
+            if end == body.len() {
+                Check::Passed
+            } else {
+                Check::Refused(Refusal::BytesAfterExpression)
+            }
+        }
+        Walked::Refused(refusal) => Check::Refused(refusal),
+    }
+}

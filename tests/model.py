@@ -1,0 +1,195 @@
+"""An independent model of document 01, to compare the library with.
+
+It is written from the document alone, and shares no text with the library. `python3 tests/model.py`
+prints what the program `cases` must print (crates/cases/stdout).
+"""
+
+# ---- Ring and trace
+
+
+def ring_check(length, state):
+    if length == 0 or length > 4095:
+        return 18
+    if not state[0] < length or state[1] > length:
+        return 19
+    return 0
+
+
+def add(slots, state, sample):
+    number = ring_check(len(slots), state)
+    if number:
+        return "refused %d" % number, state
+    slots[state[0]] = 1 if sample else 0
+    return "stored", ((state[0] + 1) % len(slots), min(state[1] + 1, len(slots)))
+
+
+def held(slots, state):
+    return [1 if slots[(state[0] - state[1] + i) % len(slots)] else 0 for i in range(state[1])]
+
+
+def take(slots, state, out):
+    number = ring_check(len(slots), state)
+    if number:
+        return "refused %d" % number
+    size = -(-state[1] // 8)
+    if len(out) < size:
+        return "refused 22"
+    bits = held(slots, state)
+    for j in range(size):
+        out[j] = sum(b << i for i, b in enumerate(bits[8 * j:8 * j + 8]))
+    return "samples %d" % state[1]
+
+
+# ---- Program bytes
+
+
+class Refused(Exception):
+    pass
+
+
+def refuse(number):
+    raise Refused(number)
+
+
+def read_program(data):
+    """The functions as (parameter kinds, result kind, tree); kinds are 'list' and 'bool'."""
+    if not 1 <= len(data) <= 4096:
+        refuse(5)
+    count = data[0]
+    if not 1 <= count <= 32:
+        refuse(6)
+    at, raw = 1, []
+    for _ in range(count):
+        if len(data) - at < 4:
+            refuse(7)
+        params, kinds, size = data[at], data[at + 1], data[at + 2] | data[at + 3] << 8
+        if params > 4 or kinds >> 5 or (kinds & 15) >> params:
+            refuse(8)
+        at += 4
+        if not 1 <= size <= 1024 or size > len(data) - at:
+            refuse(9)
+        names = ["list" if kinds >> i & 1 else "bool" for i in range(params)]
+        raw.append((names, "list" if kinds & 16 else "bool", data[at:at + size]))
+        at += size
+    if at != len(data):
+        refuse(10)
+    if raw[0][:2] != (["list"], "bool"):
+        refuse(11)
+    return [(names, result, read_body(body, names, result, raw)) for names, result, body in raw]
+
+
+def read_body(body, params, result, raw):
+    at = 0
+
+    def node(depth, kind):
+        nonlocal at
+        if at == len(body):
+            refuse(12)
+        if depth > 64:
+            refuse(13)
+        byte = body[at]
+        at += 1
+        if byte == 0x24:
+            refuse(14)
+
+        def demand(own):
+            if own != kind:
+                refuse(16)
+
+        if byte in (0x00, 0x01):
+            demand("bool")
+            return ("constant", byte == 1)
+        if byte == 0x02:
+            demand("list")
+            return ("empty",)
+        if 0x10 <= byte <= 0x13:
+            if byte - 0x10 >= len(params):
+                refuse(15)
+            demand(params[byte - 0x10])
+            return ("param", byte - 0x10)
+        if byte in (0x20, 0x21, 0x22):
+            demand("list" if byte == 0x21 else "bool")
+            return ({0x20: "hd", 0x21: "tl", 0x22: "null"}[byte], node(depth + 1, "list"))
+        if byte == 0x23:
+            return ("if", node(depth + 1, "bool"), node(depth + 1, kind), node(depth + 1, kind))
+        if 0x80 <= byte <= 0x9F:
+            if byte - 0x80 >= len(raw):
+                refuse(15)
+            callee = raw[byte - 0x80]
+            demand(callee[1])
+            return ("call", byte - 0x80, [node(depth + 1, k) for k in callee[0]])
+        refuse(15)
+
+    tree = node(1, result)
+    if at != len(body):
+        refuse(17)
+    return tree
+
+
+def check_program(data):
+    try:
+        read_program(data)
+    except Refused as r:
+        return r.args[0]
+    return 0
+
+
+# ---- What the program `cases` prints
+
+
+def ring_cases():
+    largest = 2 ** 64 - 1
+    state_text = lambda s: "next %d count %d" % s
+    bytes_text = lambda l: "".join(" %d" % x for x in l)
+    for n in (0, 1, 4095, 4096):
+        slots, out = [0] * n, [0]
+        answer, state = add(slots, (0, 0), 1)
+        taken = take(slots, state, out)
+        yield "ring of %d: add %s %s, take %s%s" % (n, answer, state_text(state), taken, bytes_text(out))
+    for state in ((0, 0), (2, 3), (3, 3), (2, 4), (0, 3), (1, 2), (largest, 0), (0, largest)):
+        slots, out = [1, 0, 1], [255, 255]
+        taken = take(slots, state, out)
+        answer, after = add(slots, state, 0)
+        yield "state %d %d: take %s%s, add %s %s%s" % (*state, taken, bytes_text(out), answer, state_text(after), bytes_text(slots))
+    answer, state = add([], (7, 9), 1)
+    yield "empty ring in a bad state: add %s %s, take %s" % (answer, state_text(state), take([], (7, 9), []))
+    yield "bad state and no room: take %s" % take([1] * 9, (9, 9), [])
+    for out, counts in (([], (0, 1)), ([170], (9, 8)), ([170] * 2, (9,)), ([170] * 3, (9, 1))):
+        for count in counts:
+            taken = take([1] * 9, (0, count), out)
+            yield "take %d into %d: %s%s" % (count, len(out), taken, bytes_text(out))
+    slots, state = [0] * 3, (0, 0)
+    for sample in (1, 0, 1, 1, 0):
+        answer, state = add(slots, state, sample)
+        out = [0]
+        text = bytes_text(slots)
+        yield "add %d: %s %s, slots%s, take %s%s" % (sample, answer, state_text(state), text, take(slots, state, out), bytes_text(out))
+    slots, out = [7, 0, 255], [0]
+    taken = take(slots, (0, 3), out)
+    answer, state = add(slots, (1, 3), 9)
+    yield "slots 7 0 255: take %s%s, add 9 %s %s%s" % (taken, bytes_text(out), answer, state_text(state), bytes_text(slots))
+    slots, state, out = [0] * 4095, (0, 0), [0] * 512
+    for i in range(10000):
+        answer, state = add(slots, state, 1 if i % 3 == 0 else 0)
+    taken = take(slots, state, out)
+    yield "10000 into 4095: %s, take %s, bytes%s ..%s" % (state_text(state), taken, bytes_text(out[:3]), bytes_text(out[-3:]))
+
+
+def rule_cases():
+    """The programs stand in crates/cases/src/rule_cases.rt; their numbers are worked out here."""
+    import pathlib
+    import re
+
+    source = (pathlib.Path(__file__).parent.parent / "crates/cases/src/rule_cases.rt").read_text()
+    for name, text in re.findall(r'program\(b"([^"]*)", b"([^"]*)"\)', source):
+        data = bytes(int(x, 16) for x in re.findall(r"\\x([0-9A-F]{2})", text))
+        yield "%s %d" % (name, check_program(data))
+    for nodes in (64, 65):
+        data = bytes([1, 1, 1, nodes, 0, 0x22] + [0x21] * (nodes - 2) + [0x10])
+        yield "%d nodes deep %d" % (nodes, check_program(data))
+
+
+if __name__ == "__main__":
+    for cases in (ring_cases, rule_cases):
+        for line in cases():
+            print(line)
