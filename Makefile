@@ -1,5 +1,5 @@
 # Short names for what is done often. `make help` lists them.
-.PHONY: help test check fmt try
+.PHONY: help test check fmt try bench
 
 help: ## list the targets
 	@grep -hE '^[a-z]+:.*## ' $(MAKEFILE_LIST) | sed 's/:.*## /\t/' | expand -t 8
@@ -15,3 +15,13 @@ fmt: ## lay out the sources and proofs
 
 try: ## run the cases with no proof: interpreter, -O0, -O3, assumptions checked
 	rt try cases
+
+BENCH_CC = gcc clang
+
+bench: ## time the library beside the same passes in plain C, in one run for each C compiler there is
+	rt staticlib gateway
+	@for c in $(BENCH_CC); do \
+	  command -v $$c >/dev/null || continue; \
+	  $$c -std=c99 -Wall -Wextra -O3 -Iinclude bench/bench.c target/staticlib/libgateway.a -o target/bench || exit 1; \
+	  echo "plain C by $$c -O3"; target/bench || exit 1; \
+	done

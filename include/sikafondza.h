@@ -35,6 +35,25 @@ extern "C" {
  */
 uint32_t sik_check_program(const uint8_t *program, size_t program_len);
 
+/* Evaluates a rule program on a packed trace of n samples, sample i being bit i mod 8, from the lowest, of
+ * byte i / 8. The table is where it works: one cell of 16 bits for each configuration of the program's
+ * functions, which is a function with a value for each parameter (2 values for a Bool, n + 1 for a list).
+ * Answers 0 if it evaluated, and writes
+ *   answer[0]  the verdict: 0 forever, 1 no (False), 2 yes (True), 3 head of empty, 4 tail of empty
+ *   answer[1]  the pass count: the number of the first pass that stored no outcome
+ *   table      in the cells needed, the outcomes: 0 undecided, 1 False, 2 True, 3 head of empty, 4 tail of
+ *              empty, 5 + k a suffix of length k; cells beyond keep their content
+ * What the table held before does not matter. Else answers the number of the refusal, and changes neither
+ * the table nor the answer:
+ *   5 to 17  as sik_check_program
+ *   20  n is above 4,095, or trace_len is not n / 8 rounded up
+ *   21  the cells needed exceed table_len or 16,777,216
+ * The lowest number that applies is answered. The table and the answer must not overlap each other or what
+ * is lent for reading.
+ */
+uint32_t sik_evaluate(const uint8_t *program, size_t program_len, const uint8_t *trace, size_t trace_len, uint64_t n,
+                      uint16_t *table, size_t table_len, uint64_t answer[2]);
+
 #ifdef __cplusplus
 }
 #endif

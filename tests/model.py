@@ -134,6 +134,169 @@ def check_program(data):
     return 0
 
 
+# ---- Evaluation
+
+# An outcome is ("bool", truth), ("list", length of the suffix) or ("error", 3 or 4); None is undecided.
+HEAD, TAIL = ("error", 3), ("error", 4)
+
+
+def samples(trace, n):
+    return [trace[i // 8] >> i % 8 & 1 for i in range(n)]
+
+
+def outcome(tree, values, bits, call):
+    """The outcome of an expression; `call` answers that of a function on values."""
+    sort = tree[0]
+    if sort == "constant":
+        return ("bool", tree[1])
+    if sort == "empty":
+        return ("list", 0)
+    if sort == "param":
+        return values[tree[1]]
+    if sort == "call":
+        given = []
+        for argument in tree[2]:
+            value = outcome(argument, values, bits, call)
+            if value is None or value[0] == "error":
+                return value
+            given.append(value)
+        return call(tree[1], tuple(given))
+    first = outcome(tree[1], values, bits, call)
+    if first is None or first[0] == "error":
+        return first
+    if sort == "if":
+        return outcome(tree[2] if first[1] else tree[3], values, bits, call)
+    k = first[1]
+    if sort == "null":
+        return ("bool", k == 0)
+    if sort == "tl":
+        return ("list", k - 1) if k else TAIL
+    return ("bool", bits[len(bits) - k] == 1) if k else HEAD
+
+
+def values_of(kind, n):
+    """The values of a kind, False before True and shorter before longer."""
+    return [("bool", False), ("bool", True)] if kind == "bool" else [("list", k) for k in range(n + 1)]
+
+
+def cell_count(functions, n):
+    total = 0
+    for params, _, _ in functions:
+        size = 1
+        for kind in params:
+            size *= 2 if kind == "bool" else n + 1
+        total += size
+    return total
+
+
+def configurations(functions, n):
+    """Every configuration, as (function, values), in the order of the cells."""
+    import itertools
+
+    for f, (params, _, _) in enumerate(functions):
+        for values in itertools.product(*(values_of(kind, n) for kind in params)):
+            yield (f, values)
+
+
+def to_cell(value):
+    return value[1] if value[0] == "error" else 5 + value[1] if value[0] == "list" else 2 if value[1] else 1
+
+
+def from_cell(cell, kind, n):
+    """The outcome in a cell of a function with this result kind; None where it holds no such outcome."""
+    if cell in (3, 4):
+        return ("error", cell)
+    if kind == "bool" and cell in (1, 2):
+        return ("bool", cell == 2)
+    if kind == "list" and 5 <= cell <= 5 + n:
+        return ("list", cell - 5)
+    return None
+
+
+def one_pass(functions, bits, table):
+    """A pass over the table as it is: how many outcomes it stores."""
+    n, stored = len(bits), 0
+    order = list(configurations(functions, n))
+    place = {c: i for i, c in enumerate(order)}
+
+    def look_up(g, values):
+        return from_cell(table[place[(g, values)]], functions[g][1], n)
+
+    for i, (f, values) in enumerate(order):
+        if from_cell(table[i], functions[f][1], n) is None:
+            value = outcome(functions[f][2], values, bits, look_up)
+            if value is not None:
+                table[i] = to_cell(value)
+                stored += 1
+    return stored
+
+
+def derivations(functions, bits):
+    """What has a derivation, found with no table and no pass: a configuration whose body waits for a call is
+    taken up again when that call is decided. With each outcome, the calls that its derivation takes."""
+    found, waiting = {}, {}
+    work = list(configurations(functions, len(bits)))
+    while work:
+        own = work.pop()
+        taken = []
+
+        def call(g, values):
+            taken.append((g, values))
+            return found[(g, values)][0] if (g, values) in found else None
+
+        if own not in found:
+            value = outcome(functions[own[0]][2], own[1], bits, call)
+            if value is None:
+                waiting.setdefault(taken[-1], []).append(own)
+            else:
+                found[own] = (value, taken)
+                work += waiting.pop(own, [])
+    return found
+
+
+def pass_count(functions, bits, found):
+    """The pass count by the derivations alone: a configuration is decided in the pass of the last call that it
+    takes, or in the next one where that call's cell is not below its own; one pass more changes nothing."""
+    place = {c: i for i, c in enumerate(configurations(functions, len(bits)))}
+    decided = {}
+    for own, (_, taken) in found.items():
+        decided[own] = max([1] + [decided[c] + (place[c] >= place[own]) for c in taken])
+    return max(decided.values(), default=0) + 1
+
+
+def settle(program, trace, n, lent):
+    """The functions, or the refusal of evaluating."""
+    functions = read_program(program)
+    if n > 4095 or len(trace) != -(-n // 8):
+        refuse(20)
+    if cell_count(functions, n) > min(lent, 16777216):
+        refuse(21)
+    return functions
+
+
+def evaluate(program, trace, n, table):
+    try:
+        functions = settle(program, trace, n, len(table))
+    except Refused as r:
+        return "refused %d" % r.args[0]
+    bits, needed, passes = samples(trace, n), cell_count(functions, n), 1
+    table[:needed] = [0] * needed
+    while one_pass(functions, bits, table):
+        passes += 1
+    found = derivations(functions, bits)
+    assert table[:needed] == [to_cell(found[c][0]) if c in found else 0 for c in configurations(functions, n)]
+    assert passes == pass_count(functions, bits, found)
+    return "verdict %d passes %d" % (table[n], passes)
+
+
+def make_pass(program, trace, n, table):
+    try:
+        functions = settle(program, trace, n, len(table))
+    except Refused as r:
+        return "refused %d" % r.args[0]
+    return "stored %d" % one_pass(functions, samples(trace, n), table)
+
+
 # ---- What the program `cases` prints
 
 
@@ -181,7 +344,7 @@ def rule_cases():
     import re
 
     source = (pathlib.Path(__file__).parent.parent / "crates/cases/src/rule_cases.rt").read_text()
-    for name, text in re.findall(r'program\(b"([^"]*)", b"([^"]*)"\)', source):
+    for name, text in re.findall(r'program\(\s*b"([^"]*)",\s*b"([^"]*)",?\s*\)', source):
         data = bytes(int(x, 16) for x in re.findall(r"\\x([0-9A-F]{2})", text))
         yield "%s %d" % (name, check_program(data))
     for nodes in (64, 65):
@@ -189,7 +352,40 @@ def rule_cases():
         yield "%d nodes deep %d" % (nodes, check_program(data))
 
 
+def evaluate_cases():
+    """The programs, traces and contents stand in crates/cases/src/evaluate_cases.rt."""
+    import pathlib
+    import re
+
+    source = (pathlib.Path(__file__).parent.parent / "crates/cases/src/evaluate_cases.rt").read_text()
+    data = lambda text: bytes(int(x, 16) for x in re.findall(r"\\x([0-9A-F]{2})", text))
+    cells_text = lambda l: "".join(" %d" % x for x in l)
+    for sort, text in re.findall(r"^    (tried|long|medium|passed)\((.*?),?\s*\);", source, re.M | re.S):
+        name, program, *more = re.findall(r'b"([^"]*)"', text)
+        numbers = [int(x) for x in re.findall(r"\d+", re.sub(r'b"[^"]*"', "", text))]
+        n, program = numbers[0], data(program)
+        if sort == "tried":
+            _, lent, content = numbers
+            table = [content] * lent
+            answer = evaluate(program, data(more[0]), n, table)
+            yield "%s: %s, cells%s" % (name, answer, cells_text(table + [content] * (20 - lent)))
+        elif sort in ("long", "medium"):
+            _, size, byte = numbers
+            trace, table, total = [255] * 520, [9] * (4100 if sort == "long" else 60), 0
+            trace[2] = byte
+            answer = evaluate(program, trace[:size], n, table)
+            for cell in table:
+                total = (31 * total + cell) % 65521
+            yield "%s: %s, sum %d, cells%s ..%s" % (name, answer, total, cells_text(table[:3]), cells_text(table[-3:]))
+        else:
+            table, (start, end) = numbers[1:9], numbers[9:]
+            part = table[start:end]
+            answer = make_pass(program, data(more[0]), n, part)
+            table[start:end] = part
+            yield "pass, %s: %s, cells%s" % (name, answer, cells_text(table))
+
+
 if __name__ == "__main__":
-    for cases in (ring_cases, rule_cases):
+    for cases in (ring_cases, rule_cases, evaluate_cases):
         for line in cases():
             print(line)

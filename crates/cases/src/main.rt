@@ -1,5 +1,6 @@
 // Runs the cases of document 01 that are executed and not proved, and prints what came out. The gate
 // compares it with the file stdout.
+mod evaluate_cases;
 mod ring_cases;
 mod rule_cases;
 mod text;
@@ -17,4 +18,8 @@ fn main() {
     rule_cases::nodes();
     rule_cases::priorities();
     rule_cases::depths();
+    evaluate_cases::verdicts();
+    evaluate_cases::refusals();
+    evaluate_cases::passes();
+    evaluate_cases::longest();
 }

@@ -1,4 +1,6 @@
 // Words and numbers on standard output, and the answers of the library in words.
+use evaluate::Evaluated;
+use evaluate::PassMade;
 use refusal::Refusal;
 use ring::Added;
 use ring::Ring;
@@ -38,6 +40,45 @@ pub fn ends(content: &[u8]) {
     bytes(&content[from..]);
 }
 
+// Cells of a table, each after a space.
+pub fn cells(content: &[u16]) {
+    let mut i = 0;
+    while i < content.len() {
+        number(content[i] as usize);
+        i += 1;
+    }
+}
+
+// A number that tells two long tables apart: cell by cell, 31 times what it was plus the cell, mod 65,521.
+fn checksum(content: &[u16]) -> usize {
+    let mut sum = 0;
+    let mut i = 0;
+    while i < content.len() {
+        sum = mixed(sum, content[i]);
+        i += 1;
+    }
+    sum
+}
+
+fn mixed(sum: usize, cell: u16) -> usize {
+    ((sum % 65521) * 31 + (cell as usize)) % 65521
+}
+
+// A long table: its checksum, its first three cells and its last three.
+pub fn summary(content: &[u16]) {
+    let len = content.len();
+    if len < 3 {
+        return;
+    }
+    let from = len - 3;
+    words(b", sum");
+    number(checksum(content));
+    words(b", cells");
+    cells(&content[0..3]);
+    words(b" ..");
+    cells(&content[from..]);
+}
+
 pub fn refused(refusal: Refusal) {
     words(b" refused");
     number(refusal::number(refusal) as usize);
@@ -74,5 +115,30 @@ pub fn taken(answer: Taken) {
             number(n);
         }
         Taken::Refused(refusal) => refused(refusal),
+    }
+}
+
+// The answer of evaluating.
+pub fn evaluated(answer: Evaluated) {
+    match answer {
+        Evaluated::Verdict(verdict) => {
+            let decision = verdict.decision;
+            words(b" verdict");
+            number(semantics::verdict_number(decision) as usize);
+            words(b" passes");
+            number(verdict.passes as usize);
+        }
+        Evaluated::Refused(refusal) => refused(refusal),
+    }
+}
+
+// The answer of a single pass.
+pub fn passed(answer: PassMade) {
+    match answer {
+        PassMade::Stored(outcomes) => {
+            words(b" stored");
+            number(outcomes);
+        }
+        PassMade::Refused(refusal) => refused(refusal),
     }
 }

@@ -1,0 +1,4 @@
+pub mod Settling
+pub mod Preparing
+pub mod Evaluating
+pub mod RowsGiven

@@ -1,0 +1,108 @@
+-- The check of an evaluation, one law for each way through it:
+--   program-refused, trace-refused     it refuses
+--   trace-passed                       a trace that is not refused
+--   table-left                         the check that is left is that of the table
+--   settled                            what it leaves if it passes
+use Prim.Native.Nat.{ℕ, _<_, _≤_}
+use native.Mathlib.Omega.{arith}
+use mathlib.Core.Path.{_≡_, refl, sym, ap, _∙_}
+use mathlib.Core.Bool.{Bool, true, false, not, _||_}
+use mathlib.Core.List.{List, []}
+use lib.Dec.{eqb, ltb}
+use lib.ListN.{length}
+use borrow.Author.Tests.{ltb-false, eqb-true}
+use Rattle.refusal.specs.declared.Refusal.{Refusal}
+use Rattle.refusal.specs.declared.Check.{Check}
+use Rattle.refusal.specs.declared.Check.the-variants.{Passed, Refused}
+use Rattle.refusal.specs.{refuseIf, _then_}
+use Rattle.refusal.proofs.Numbers.{refused}
+use Rattle.trace.specs.{mostSamples, bytesFor, samples}
+use Rattle.trace.proofs.Packing.{length-samples}
+use Rattle.semantics.specs.Language.{Program}
+use Rattle.semantics.specs.Table.{cells}
+use Rattle.rule.specs.declared.Layout.{Layout}
+use Rattle.rule.specs.Form.{Accepted, mostFunctions}
+use Rattle.rule.specs.Layout.{layoutOf, layoutFrom}
+use Rattle.rule.specs.Reading.{Parsed, got, checkFrom, programFrom, programCheck}
+use Rattle.rule.specs.Reading as reading
+use Rattle.rule.proofs.Programs.{read-encoded}
+use Rattle.fixpoint.specs.declared.setup.Cells.{Cells}
+use Rattle.fixpoint.specs.Limits.{mostCells}
+use Rattle.evaluate.specs.Evaluate.{traceCheck, tableCheck, checkRead, evaluateCheck}
+use Rattle.fixpoint.specs.Mirror.{totalBefore, functionsUpto}
+use Rattle.evaluate.specs.Settled.{Settled}
+use Rattle.fixpoint.proofs.FunctionsMeaning.{total-means}
+
+module _ (bytes trace : List ℕ) (n lent : ℕ) where
+  pub program-refused : {c : Check} {f : Refusal} → c ≡ programCheck bytes → c ≡ Refused f → evaluateCheck bytes trace n lent ≡ Refused f
+  unfolding evaluateCheck programCheck
+  program-refused e q = go (programFrom bytes) (sym e ∙ q)
+    where
+      go : {f : Refusal} (p : Parsed Program) → checkFrom p ≡ Refused f → checkRead p trace n lent ≡ Refused f
+      go (got P rest) h = absurd (refused (sym h))
+      go (reading.refused g) h = h
+
+  module _ {P : Program} (a : Accepted bytes P) where
+    read : evaluateCheck bytes trace n lent ≡ (traceCheck n (length trace) then tableCheck (cells (samples trace n) P) lent)
+    unfolding evaluateCheck
+    read = rw (read-encoded bytes P a)
+
+    pub trace-refused : {c : Check} {f : Refusal} → c ≡ traceCheck n (length trace) → c ≡ Refused f → evaluateCheck bytes trace n lent ≡ Refused f
+    trace-refused e q = rw (read, ← e, q)
+
+    pub table-left : {c : Check} {total : ℕ} → c ≡ traceCheck n (length trace) → c ≡ Passed → total ≡ cells (samples trace n) P → evaluateCheck bytes trace n lent ≡ tableCheck total lent
+    table-left e q k = rw (read, ← e, q, k)
+
+-- a check of two faults that passes has neither
+passed-if : (x y : Bool) (f : Refusal) → refuseIf (x || y) f ≡ Passed → (x ≡ false) × (y ≡ false)
+passed-if true y f h = absurd (refused h)
+passed-if false true f h = absurd (refused h)
+passed-if false false f h = (refl, refl)
+
+not-false : (b : Bool) → not b ≡ false → b ≡ true
+not-false true h = refl
+not-false false h = sym h
+
+pub trace-passed : (n size : ℕ) {c : Check} → c ≡ traceCheck n size → c ≡ Passed → (n ≤ mostSamples) × (size ≡ bytesFor n)
+trace-passed n size e q =
+    let h = passed-if (ltb mostSamples n) (not (eqb size (bytesFor n))) _ (sym e ∙ q) in
+    (ltb-false mostSamples n (h .0), eqb-true size (bytesFor n) (not-false (eqb size (bytesFor n)) (h .1)))
+
+table-passed : (needed lent : ℕ) {c : Check} → c ≡ tableCheck needed lent → c ≡ Passed → (needed ≤ lent) × (needed ≤ mostCells)
+table-passed needed lent e q =
+    let h = passed-if (ltb lent needed) (ltb mostCells needed) _ (sym e ∙ q) in
+    (ltb-false lent needed (h .0), ltb-false mostCells needed (h .1))
+
+module _ {bytes : List ℕ} {P : Program} (a : Accepted bytes P) where
+  pub layout-is : {layout : Layout} → layout ≡ layoutFrom (programFrom bytes) → layout ≡ layoutOf P
+  layout-is e = e ∙ ap layoutFrom (read-encoded bytes P a)
+
+  pub functions-few : {layout : Layout} → layout ≡ layoutFrom (programFrom bytes) → layout .functions ≤ mostFunctions
+  unfolding layoutOf
+  functions-few e = rw (layout-is e) (a .few)
+
+  module _ {layout : Layout} (l : layout ≡ layoutFrom (programFrom bytes)) (n : ℕ) {places : Cells}
+      (f : places .functions ≡ functionsUpto (layout .kinds) (layout .params) n (layout .functions))
+      (s : places .total ≡ totalBefore (layout .kinds) (layout .params) n (layout .functions)) where
+    pub total-is : (trace : List ℕ) → places .total ≡ cells (samples trace n) P
+    unfolding layoutOf
+    total-is trace = s ∙ rw (layout-is l) (rw (length-samples trace n) at (total-means a (samples trace n)))
+
+    pub settled : (trace : List ℕ) (lent : ℕ) {c d : Check} → c ≡ traceCheck n (length trace) → c ≡ Passed → d ≡ tableCheck (places .total) lent → d ≡ Passed
+        → Settled bytes trace n layout places lent
+    unfolding layoutOf
+    settled trace lent tc tp dc dp =
+        let t = trace-passed n (length trace) tc tp in
+        let r = table-passed (places .total) lent dc dp in
+        let total = total-is trace in
+        record {
+          program = P;
+          accepted = a;
+          few = t .0;
+          packed = t .1;
+          laid = layout-is l;
+          first = f ∙ rw (layout-is l);
+          total = total;
+          fits = rw total at (r .1);
+          room = rw total at (r .0);
+        }

@@ -1,0 +1,56 @@
+-- `pass` meets its contract: a refusal, or one pass of a settled evaluation.
+use native.Mathlib.Omega.{arith}
+use lib.ListN.{length}
+use Rattle.evaluate.specs.Settled.{Settled}
+use Rattle.evaluate.proofs.Evaluating.{pass-refused, pass-passed}
+use borrow.Author.Needs.{needs}
+use Rattle.evaluate.proofs.pass.Statement.{statement}
+use Rattle.evaluate.proofs.pass.Tie as tie
+
+-- a check that passes has settled the evaluation
+settled : (c : tie.After-enum-told) → let start = c .before .before .before .before .before .before .before .before in
+    Settled (start .args .program .now) (start .args .trace .now) (start .args .n) (c .before .before .before .before .prepare .result .layout) (c .before .before .before .before .prepare .result .cells) (length (start .args .table .now))
+settled c = c .before .before .before .before .prepare .ensures .1 (c .enum-told .given .1)
+
+prepare-requires : tie.Need-prepare-requires
+prepare-requires c κs = search needs
+
+enum-known-check : tie.Need-enum-known-check
+enum-known-check c = search needs
+
+enum-told : tie.Need-enum-told
+enum-told c = search needs
+
+cast-pass-once : tie.Need-cast-pass-once
+cast-pass-once c = omega (arith, settled c .few)
+
+pass-once-requires : tie.Need-pass-once-requires
+pass-once-requires c κs = settled (c .before)
+
+returns : tie.Need-returns
+returns c =
+    let a = c .before .before .before .before .before .before .before .before .before .args in
+    pass-refused (a .program .now) (a .trace .now) (a .n) (a .table .now) (c .before .before .before .before .before .prepare .ensures .0) (c .before .check .given .1)
+
+same-length : tie.Need-same-length
+same-length c = search needs
+
+returns-2 : tie.Need-returns-2
+returns-2 c =
+    let a = c .before .before .before .before .before .before .before .before .before .before .before .before .args in
+    let made = c .before .before .pass-once .ensures in
+    let told = c .before .before .before .before in
+    pass-passed (a .program .now) (a .trace .now) (a .n) (a .table .now) (told .before .before .before .before .prepare .ensures .0) (told .enum-told .given .1) (made .0) (made .1)
+
+pub pass-spec : {M : Type 1} → statement M
+pass-spec =
+    tie.close
+    (tie.spec
+    prepare-requires
+    enum-known-check
+    enum-told
+    cast-pass-once
+    pass-once-requires
+    returns
+    same-length
+    returns-2)

@@ -1,0 +1,98 @@
+-- `prepare` meets its contract: each check in its order, and what a passed one leaves.
+use mathlib.Core.Path.{_≡_, sym, _∙_}
+use native.Mathlib.Omega.{arith}
+use lib.ListN.{length}
+use Rattle.refusal.proofs.Numbers.{refused}
+use Rattle.semantics.specs.Language.{Program}
+use Rattle.rule.specs.Form.{Accepted}
+use Rattle.rule.proofs.Programs.{passed-accepted}
+use Rattle.evaluate.proofs.Preparing.{program-refused, trace-refused, table-left, trace-passed, functions-few, total-is, settled}
+use borrow.Author.Needs.{needs}
+use Rattle.evaluate.proofs.prepare.prepare.Statement.{statement}
+use Rattle.evaluate.proofs.prepare.prepare.Tie as tie
+
+-- a program that passes the check is accepted
+accepted : (c : tie.After-enum-told) → (P : Program) × Accepted (c .before .before .before .before .before .before .args .program .now) P
+accepted c =
+    passed-accepted _ (λ i. omega (arith, c .before .before .before .before .before .shared-slice-known .given i)) (sym (c .before .before .before .check-program .ensures .0) ∙ c .enum-told .given .1)
+
+check-program-requires : tie.Need-check-program-requires
+check-program-requires c κs = search needs
+
+enum-known-check : tie.Need-enum-known-check
+enum-known-check c = search needs
+
+refused-requires : tie.Need-refused-requires
+refused-requires c κs = search needs
+
+enum-told : tie.Need-enum-told
+enum-told c = search needs
+
+trace-check-requires : tie.Need-trace-check-requires
+trace-check-requires c κs = search needs
+
+enum-known-refusal : tie.Need-enum-known-refusal
+enum-known-refusal c = search needs
+
+refused-requires-2 : tie.Need-refused-requires-2
+refused-requires-2 c κs = search needs
+
+enum-told-2 : tie.Need-enum-told-2
+enum-told-2 c = search needs
+
+cast-cells-of : tie.Need-cast-cells-of
+cast-cells-of c =
+    let a = c .before .before .before .before .before .before .before .before .before .before .before .before .before .args in
+    omega (arith, trace-passed (a .n) (length (a .trace .now)) (c .before .before .before .before .before .before .trace-check .ensures) (c .before .before .before .before .enum-told2 .given .1) .0)
+
+cells-of-requires : tie.Need-cells-of-requires
+cells-of-requires c κs = (
+  functions-few (accepted (c .before .before .before .before .before .before .before) .1) (c .before .before .before .before .before .before .before .before .before .before .check-program .ensures .1),
+  trace-passed _ _ (c .before .before .before .before .before .before .trace-check .ensures) (c .before .before .before .before .enum-told2 .given .1) .0,
+)
+
+table-check-requires : tie.Need-table-check-requires
+table-check-requires c κs = search needs
+
+returns : tie.Need-returns
+returns c =
+    let a = c .before .before .before .before .before .before .before .before .args in
+    let all = program-refused (a .program .now) (a .trace .now) (a .n) (a .lent) (c .before .before .before .before .before .check-program .ensures .0) (c .before .before .check .given .1) in
+    (c .refused .ensures ∙ sym all, λ e. absurd (refused (sym (c .refused .ensures) ∙ e)))
+
+returns-2 : tie.Need-returns-2
+returns-2 c =
+    let a = c .before .before .before .before .before .before .before .before .before .before .before .args in
+    let all = trace-refused (a .program .now) (a .trace .now) (a .n) (a .lent) (accepted (c .before .before .before .before .before) .1) (c .before .before .before .before .trace-check .ensures) (c .before .before .refusal .given .1) in
+    (c .refused2 .ensures ∙ sym all, λ e. absurd (refused (sym (c .refused2 .ensures) ∙ e)))
+
+returns-3 : tie.Need-returns-3
+returns-3 c =
+    let a = c .before .before .before .before .before .before .before .before .before .before .before .before .before .before .before .args in
+    let program = accepted (c .before .before .before .before .before .before .before .before .before) .1 in
+    let layout = c .before .before .before .before .before .before .before .before .before .before .before .before .check-program .ensures .1 in
+    let trace = c .before .before .before .before .before .before .before .before .trace-check .ensures in
+    let passed = c .before .before .before .before .before .before .enum-told2 .given .1 in
+    let places = c .before .cells-of .ensures in (
+      c .table-check .ensures ∙ sym (table-left (a .program .now) (a .trace .now) (a .n) (a .lent) program trace passed (total-is program layout (a .n) (places .0) (places .1) (a .trace .now))),
+      λ e. settled program layout (a .n) (places .0) (places .1) (a .trace .now) (a .lent) trace passed (c .table-check .ensures) e,
+    )
+
+pub prepare-spec : {M : Type 1} → statement M
+prepare-spec =
+    tie.close
+    (tie.spec
+    check-program-requires
+    enum-known-check
+    refused-requires
+    enum-told
+    trace-check-requires
+    enum-known-refusal
+    refused-requires-2
+    enum-told-2
+    cast-cells-of
+    cells-of-requires
+    table-check-requires
+    returns
+    returns-2
+    returns-3)

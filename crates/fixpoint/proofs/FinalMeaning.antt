@@ -1,0 +1,88 @@
+-- Passes from zeros, in a table that may go on after the cells, by places and numbers:
+--   ends-mean        they come to a pass that stores nothing, in time
+--   table-means      the table that they leave
+--   passes-mean      how many they are
+use Prim.Native.Nat.{ℕ, zero, suc, _+_, _≤_, _<_}
+use native.Mathlib.Omega.{arith}
+use native.Mathlib.Decide.{ℕ-discrete}
+use mathlib.Core.Path.{_≡_, sym, _∙_}
+use mathlib.Core.Logic.{_≢_, inl, inr}
+use mathlib.Core.List.{List, _++_}
+use lib.ListN.{length, replicate}
+use borrow.Author.Tests.{eq-eqb, ne-eqb}
+use Rattle.semantics.specs.Language.{Program, Trace}
+use Rattle.semantics.specs.Table.{cells, Table, passStores, tableAfter, passCount, finalTable}
+use Rattle.semantics.specs.Demand.{FirstStill}
+use Rattle.semantics.proofs.Passes.{length-after, first-still, count-in-time, pass-append, stores-append}
+use Rattle.fixpoint.specs.Mirror.{Setup, passVisits, passCounts, tableFrom, passesFrom, mostPasses, Ends}
+use Rattle.fixpoint.proofs.PassMeaning.{Runs, pass-means, counts-mean}
+
+module _ (P : Program) (t : Trace) (bytes : List ℕ) (S : Setup) (starts : List ℕ) (r : Runs P t bytes S starts) (rest : List ℕ) where
+  -- the pass after the first k
+  next-table : (k : ℕ) → passVisits S (length t) starts (length P) (tableAfter P t k ++ rest) ≡ tableAfter P t (suc k) ++ rest
+  unfolding tableAfter
+  next-table k =
+      pass-means P t bytes S starts r (tableAfter P t k ++ rest)
+      ∙ pass-append P t (r .kinds) (tableAfter P t k) rest (omega (arith, length-after P t k))
+
+  next-stores : (k : ℕ) → passCounts S (length t) starts (length P) (tableAfter P t k ++ rest) ≡ passStores P t (tableAfter P t k)
+  next-stores k =
+      counts-mean P t bytes S starts r (tableAfter P t k ++ rest)
+      ∙ stores-append P t (r .kinds) (tableAfter P t k) rest (omega (arith, length-after P t k))
+
+  -- from table W, left by the first k passes, `fuel` more are enough to come to pass `last`, the first that stores nothing
+  record Reaches (fuel k last : ℕ) (W : Table) : Type 0 where
+    ends : Ends S (length t) starts (length P) fuel W
+    table : tableFrom S (length t) starts (length P) fuel W ≡ tableAfter P t last ++ rest
+    passes : k + passesFrom S (length t) starts (length P) fuel W ≡ last
+
+  reaches-here : (fuel k : ℕ) → passStores P t (tableAfter P t k) ≡ 0 → Reaches (suc fuel) k (suc k) (tableAfter P t k ++ rest)
+  unfolding tableFrom passesFrom Ends
+  reaches-here fuel k still =
+      let none = next-stores k ∙ still in
+      record {
+        ends = inl none;
+        table = rw (eq-eqb _ _ none) (next-table k);
+        passes = rw (eq-eqb _ _ none) (omega arith);
+      }
+
+  reaches-later : (fuel k last : ℕ) → passStores P t (tableAfter P t k) ≢ 0 → Reaches fuel (suc k) last (tableAfter P t (suc k) ++ rest)
+      → Reaches (suc fuel) k last (tableAfter P t k ++ rest)
+  unfolding tableFrom passesFrom Ends
+  reaches-later fuel k last stores later =
+      let some = ne-eqb _ 0 (λ z. stores (sym (next-stores k) ∙ z)) in
+      record {
+        ends = inr (rw (next-table k) (later .ends));
+        table = rw (some, next-table k) (later .table);
+        passes = rw (some, next-table k) (omega (arith, later .passes));
+      }
+
+  reaches : (last : ℕ) (s : FirstStill P t last) (fuel k : ℕ) → k ≤ s .before → last ≤ k + fuel
+      → Reaches fuel k last (tableAfter P t k ++ rest)
+  reaches last s zero k l enough = absurd (omega (arith, s .counted))
+  reaches last s (suc fuel) k l enough = go (λ m. reaches last s fuel (suc k) m (omega arith)) (ℕ-discrete k (s .before))
+    where
+      go : (suc k ≤ s .before → Reaches fuel (suc k) last (tableAfter P t (suc k) ++ rest)) → Dec (k ≡ s .before)
+          → Reaches (suc fuel) k last (tableAfter P t k ++ rest)
+      go later (yes e) =
+          let same : last ≡ suc k = omega (arith, s .counted) in
+          rw same (reaches-here fuel k (rw e (s .still)))
+      go later (no n) = let m : suc k ≤ s .before = omega arith in reaches-later fuel k last (s .first k m) (later m)
+
+  -- one more pass than there are cells is enough
+  from-zeros : (fuel : ℕ) → cells t P < fuel → Reaches fuel 0 (passCount P t) (replicate (cells t P) 0 ++ rest)
+  unfolding tableAfter
+  from-zeros fuel enough = reaches (passCount P t) (first-still P t (r .kinds)) fuel 0 (omega arith) (omega (arith, count-in-time P t))
+
+  in-time : cells t P < mostPasses
+  in-time = omega (arith, r .sets .fits)
+
+  pub ends-mean : Ends S (length t) starts (length P) mostPasses (replicate (cells t P) 0 ++ rest)
+  ends-mean = from-zeros mostPasses in-time .ends
+
+  pub table-means : tableFrom S (length t) starts (length P) mostPasses (replicate (cells t P) 0 ++ rest) ≡ finalTable P t ++ rest
+  unfolding finalTable
+  table-means = from-zeros mostPasses in-time .table
+
+  pub passes-mean : passesFrom S (length t) starts (length P) mostPasses (replicate (cells t P) 0 ++ rest) ≡ passCount P t
+  passes-mean = omega (arith, from-zeros mostPasses in-time .passes)

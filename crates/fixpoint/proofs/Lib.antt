@@ -1,0 +1,16 @@
+pub mod Sets
+pub mod CellMeaning
+pub mod CodeMeaning
+pub mod PlaceMeaning
+pub mod CallMeaning
+pub mod EvalMeaning
+pub mod SetupLoops
+pub mod EvalWays
+pub mod PassWays
+pub mod FunctionsMeaning
+pub mod ValuesMeaning
+pub mod EndsMeaning
+pub mod SetupMeaning
+pub mod PassMeaning
+pub mod FinalMeaning
+pub mod RunsMeaning

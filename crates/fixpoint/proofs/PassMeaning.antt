@@ -1,0 +1,164 @@
+-- Visits and passes by places and numbers come to those of the rules:
+--   Runs                                what ties a run of passes to the program and the trace
+--   found                               a place below the length has an element
+--   first-more, first-all               where the cells of the next function begin, and where all end
+--   covered                             every function has its cells within the table
+--   result-bit                          a function's result kind, by its kinds byte
+--   stored-means, visit-means           the visit of a configuration
+--   function-means, function-counts     the visits of a function's configurations
+--   pass-means, counts-mean             a pass
+use Prim.Native.Nat.{ℕ, zero, suc, _+_, _≤_, _<_}
+use native.Mathlib.Nat.{add-zero, add-suc}
+use native.Mathlib.Omega.{arith}
+use mathlib.Core.Path.{_≡_, refl, sym, ap, _∙_}
+use mathlib.Core.List.{List, [], _∷_, _++_}
+use mathlib.Core.Option.{Option, none, some}
+use lib.Dec.{eqb}
+use lib.ListN.{length, getElem?, getD, set, drop}
+use lib.Seq.{take-length}
+use borrow.Author.Tests.{ne-eqb}
+use Rattle.trace.specs.{bitOf}
+use Rattle.semantics.specs.declared.Outcome.{Outcome}
+use Rattle.semantics.specs.Language.{Kind, Function, Program, Trace, WellKinded}
+use Rattle.semantics.specs.Table.{pick, size, valuesAt, cells, contentOf, held, bodyOutcome, Table, lookup, heldAt, ifUndecided, stored, storedIn, oneIf, visit, visits, stores, pass, passStores}
+use Rattle.semantics.proofs.Cells.{code-not-zero}
+use Rattle.semantics.proofs.Numbering.{values-in}
+use Rattle.rule.specs.Form.{mostParams, mostDepth, encodeExpr, depth, isList, kindsByte}
+use Rattle.rule.proofs.KindBytes.{kinds-back}
+use Rattle.rule.proofs.WalkMeaning.{kind-bit}
+use Rattle.fixpoint.specs.Mirror.{heldCode, Setup, kindsOf, sizeOf, envAt, filledAt, storedAt, visitAt, oneUnless, functionVisits, functionStores, passVisits, passCounts, Covered}
+use Rattle.fixpoint.proofs.Sets.{firstCell, EnvOf, Sets}
+use Rattle.fixpoint.proofs.CellMeaning.{first-within, config-first, held-means}
+use Rattle.fixpoint.proofs.EvalMeaning.{eval-means}
+
+pub record Runs (P : Program) (t : Trace) (bytes : List ℕ) (S : Setup) (starts : List ℕ) : Type 0 where
+  pub sets : Sets P t bytes S
+  pub kinds : WellKinded P
+  pub sizes : (g : ℕ) (f : Function) → getElem? P g ≡ some f → sizeOf (S .functions) (length t) g ≡ size t (f .params)
+  pub envs : (g : ℕ) (f : Function) (i : ℕ) → getElem? P g ≡ some f → i < size t (f .params)
+      → EnvOf (envAt (S .functions) (length t) g i) (valuesAt t (f .params) i) (length t)
+  pub bodies : (g : ℕ) (f : Function) → getElem? P g ≡ some f
+      → (rest : List ℕ) × (drop (getD starts g 0) bytes ≡ encodeExpr (f .body) ++ rest)
+  pub deep : (g : ℕ) (f : Function) → getElem? P g ≡ some f → depth (f .body) ≤ mostDepth
+
+-- ---- Functions in their order
+
+pub found : {A : Type 0} (l : List A) (i : ℕ) → i < length l → (a : A) × (getElem? l i ≡ some a)
+found [] i h = absurd (omega arith)
+found (x ∷ l) zero h = (x, refl)
+found (x ∷ l) (suc i) h = found l i (omega arith)
+
+pub first-more : (t : Trace) (P : Program) (g : ℕ) (f : Function) → getElem? P g ≡ some f
+    → firstCell t P (suc g) ≡ firstCell t P g + size t (f .params)
+first-more t [] g f e = let z : _≡_ {A = ℕ} 0 1 = cc in absurd (omega arith)
+first-more t (f₀ ∷ P) zero f e = let q : f₀ ≡ f = cc in rw q (omega arith)
+first-more t (f₀ ∷ P) (suc g) f e = omega (arith, first-more t P g f e)
+
+pub first-all : (t : Trace) (P : Program) → firstCell t P (length P) ≡ cells t P
+first-all t P = rw (take-length P)
+
+-- ---- What a visit stores, by its number
+
+stored-number : (old new : Option Outcome) → pick (eqb (contentOf old) 0) (contentOf new) 0 ≡ contentOf (ifUndecided old new)
+stored-number none new = refl
+stored-number (some o) new = rw (ne-eqb _ _ (code-not-zero o))
+
+one-number : (s : Option Outcome) → oneUnless (contentOf s) ≡ oneIf s
+one-number none = refl
+one-number (some o) = rw (ne-eqb _ _ (code-not-zero o))
+
+put-number : (T : Table) (c : ℕ) (s : Option Outcome) → pick (eqb (contentOf s) 0) T (set T c (contentOf s)) ≡ storedIn T c s
+put-number T c none = refl
+put-number T c (some o) = rw (ne-eqb _ _ (code-not-zero o))
+
+pub result-bit : (params : List Kind) (result : Kind) → length params ≤ mostParams → bitOf 4 (kindsByte params result) ≡ isList result
+result-bit params result few = sym (kind-bit (kindsByte params result) 4) ∙ ap isList (kinds-back params result few .1)
+
+module _ (P : Program) (t : Trace) (bytes : List ℕ) (S : Setup) (starts : List ℕ) (r : Runs P t bytes S starts) where
+  pub covered : (len : ℕ) → cells t P ≤ len → Covered (S .functions) (length t) (length P) len
+  covered len long = record {
+    few = r .sets .functions;
+    each = λ g h.
+        let f = found P g h in
+        record {
+          below = omega (arith, r .sets .functions);
+          samples = r .sets .samples;
+          within = rw (r .sets .first g (f .0) (f .1), r .sizes g (f .0) (f .1)) (omega (arith, first-within t P g (f .0) (f .1)));
+        };
+  }
+
+  -- ---- The visit of a configuration
+
+  held-number : (g : ℕ) (f : Function) → getElem? P g ≡ some f → (cell : ℕ)
+      → heldCode (bitOf 4 (kindsOf (S .functions) g)) (length t) cell ≡ contentOf (held t (f .result) cell)
+  held-number g f e cell =
+      rw (r .sets .kinds g f e, result-bit (f .params) (f .result) (r .sets .params g f e)) (held-means t (f .result) cell)
+
+  module _ (T : Table) (g : ℕ) (f : Function) (i : ℕ) (e : getElem? P g ≡ some f) (h : i < size t (f .params)) where
+    filled-means : filledAt S (length t) g (getD starts g 0) T i ≡ contentOf (bodyOutcome t (lookup P t T) (valuesAt t (f .params) i) (f .body))
+    unfolding filledAt
+    filled-means =
+        let body = r .bodies g f e in
+        eval-means P t bytes S (r .sets) T (f .params) (valuesAt t (f .params) i) (values-in t (f .params) i h) (r .sets .params g f e)
+        (envAt (S .functions) (length t) g i) (r .envs g f i e h) (f .body) (f .result) mostDepth (getD starts g 0) (body .0)
+        (r .kinds g f e) (r .deep g f e) (body .1)
+
+    pub stored-means : storedAt S (length t) g (getD starts g 0) T i ≡ contentOf (stored P t T (firstCell t P g + i))
+    unfolding storedAt stored heldAt
+    stored-means =
+        let cell = getD T (firstCell t P g + i) 0 in
+        rw (r .sets .first g f e, config-first t P g f i e h, held-number g f e cell, filled-means)
+        (stored-number (held t (f .result) cell) (bodyOutcome t (lookup P t T) (valuesAt t (f .params) i) (f .body)))
+
+    pub visit-means : visitAt S (length t) g (getD starts g 0) T i ≡ visit P t (firstCell t P g + i) T
+    unfolding visitAt visit
+    visit-means =
+        let c = firstCell t P g + i in
+        rw (stored-means, r .sets .first g f e) (put-number T c (stored P t T c))
+
+  -- ---- The visits of a function's configurations
+
+  module _ (T : Table) (g : ℕ) (f : Function) (e : getElem? P g ≡ some f) where
+    pub function-means : (i : ℕ) → i ≤ size t (f .params)
+        → functionVisits S (length t) g (getD starts g 0) i (visits P t (firstCell t P g) T) ≡ visits P t (firstCell t P g + i) T
+    unfolding functionVisits visits
+    function-means zero h = rw (add-zero (firstCell t P g))
+    function-means (suc i) h =
+        let c = firstCell t P g + i in
+        rw (add-suc (firstCell t P g) i, function-means i (omega arith)) (visit-means (visits P t c T) g f i e h)
+
+    pub function-counts : (i : ℕ) → i ≤ size t (f .params)
+        → stores P t (firstCell t P g) T + functionStores S (length t) g (getD starts g 0) i (visits P t (firstCell t P g) T)
+        ≡ stores P t (firstCell t P g + i) T
+    unfolding functionStores stores
+    function-counts zero h = rw (add-zero (firstCell t P g)) (omega arith)
+    function-counts (suc i) h =
+        let c = firstCell t P g + i in
+        let W = visits P t c T in
+        rw (add-suc (firstCell t P g) i, function-means i (omega arith), stored-means W g f i e h, one-number (stored P t W c))
+        (omega (arith, function-counts i (omega arith)))
+
+  -- ---- A pass
+
+  module _ (T : Table) where
+    functions-mean : (g : ℕ) → g ≤ length P
+        → (passVisits S (length t) starts g T ≡ visits P t (firstCell t P g) T)
+        × (passCounts S (length t) starts g T ≡ stores P t (firstCell t P g) T)
+    unfolding passVisits passCounts visits stores
+    functions-mean zero h = (refl, refl)
+    functions-mean (suc g) h =
+        let f = found P g h in
+        let all = size t (f .0 .params) in
+        let more = first-more t P g (f .0) (f .1) in
+        let before = functions-mean g (omega arith) in (
+          rw (more, before .0, r .sizes g (f .0) (f .1)) (function-means T g (f .0) (f .1) all (omega arith)),
+          rw (more, before .0, before .1, r .sizes g (f .0) (f .1)) (function-counts T g (f .0) (f .1) all (omega arith)),
+        )
+
+    pub pass-means : passVisits S (length t) starts (length P) T ≡ pass P t T
+    unfolding pass
+    pass-means = rw (← first-all t P) (functions-mean (length P) (omega arith) .0)
+
+    pub counts-mean : passCounts S (length t) starts (length P) T ≡ passStores P t T
+    unfolding passStores
+    counts-mean = rw (← first-all t P) (functions-mean (length P) (omega arith) .1)

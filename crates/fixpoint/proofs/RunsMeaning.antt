@@ -1,0 +1,44 @@
+-- The passes of an accepted program run over its own arrays:
+--   runs     what ties the run to the program and the trace
+use Prim.Native.Nat.{ℕ, _<_, _≤_}
+use mathlib.Core.Path.{_≡_}
+use mathlib.Core.List.{List, _++_}
+use mathlib.Core.Option.{some}
+use lib.ListN.{length, getElem?, getD, drop, replicate}
+use Rattle.trace.specs.{mostSamples, samples}
+use Rattle.trace.proofs.Packing.{length-samples}
+use Rattle.semantics.specs.Language.{Function, Program}
+use Rattle.semantics.specs.Table.{size, valuesAt, cells}
+use Rattle.rule.specs.Form.{mostFunctions, mostBytes, encodeExpr, padded, Accepted}
+use Rattle.rule.specs.Layout.{startsFrom, layoutOf}
+use Rattle.rule.proofs.Padded.{getD-padded}
+use Rattle.rule.proofs.Places.{body-at}
+use Rattle.fixpoint.specs.Limits.{mostCells}
+use Rattle.fixpoint.specs.Mirror.{setup, endsDown, functionsUpto, sizeOf, envAt}
+use Rattle.fixpoint.proofs.Sets.{EnvOf}
+use Rattle.fixpoint.proofs.FunctionsMeaning.{size-means, kinds-mean, count-means}
+use Rattle.fixpoint.proofs.ValuesMeaning.{env-means}
+use Rattle.fixpoint.proofs.SetupMeaning.{sets}
+use Rattle.fixpoint.proofs.PassMeaning.{Runs}
+
+module _ {bytes : List ℕ} {P : Program} (a : Accepted bytes P) where
+  starts-at : (g : ℕ) (f : Function) → getElem? P g ≡ some f → (rest : List ℕ) × (drop (getD (layoutOf P .starts) g 0) bytes ≡ encodeExpr (f .body) ++ rest)
+  unfolding layoutOf
+  starts-at g f e =
+      let b = body-at bytes P a g f e in
+      (b .0, rw (getD-padded mostFunctions 0 (startsFrom 1 P) g) (b .1))
+
+  pub runs : (trace : List ℕ) (n : ℕ) → n ≤ mostSamples → cells (samples trace n) P ≤ mostCells → Runs P (samples trace n) bytes
+      (setup (padded mostBytes 0 bytes) (endsDown (padded mostBytes 0 bytes) (layoutOf P .params) (length bytes) 0 (replicate 4096 0)) (functionsUpto (layoutOf P .kinds) (layoutOf P .params) n (length P)) (padded 512 0 trace))
+      (layoutOf P .starts)
+  runs trace n few fits =
+      let s = sets a trace n few fits in
+      let t = samples trace n in
+      record {
+        sets = s;
+        kinds = a .kinds;
+        sizes = λ g f e. rw (s .kinds g f e, s .count g f e) (size-means t (f .params) (f .result) (a .fits g f e .params));
+        envs = λ g f i e h. rw (s .kinds g f e, s .count g f e) (env-means t (f .params) (f .result) (a .fits g f e .params) i h);
+        bodies = starts-at;
+        deep = λ g f e. a .fits g f e .deep;
+      }

@@ -1,0 +1,45 @@
+-- The arrays of an evaluation are those of the program and the trace:
+--   trace-means       the array of the trace
+--   sets              all of them
+use mathlib.Core.Path.{_≡_, refl, sym, ap, _∙_}
+use mathlib.Core.Bool.{Bool, false}
+use mathlib.Core.List.{List}
+use Prim.Native.Nat.{ℕ, _/_, _%_, _<_, _≤_}
+use lib.ListN.{length, getD, replicate}
+use Rattle.trace.specs.{mostSamples, bitOf, sampleAt, samples}
+use Rattle.trace.proofs.Packing.{length-samples, samples-at}
+use Rattle.semantics.specs.Language.{Program}
+use Rattle.semantics.specs.Table.{pick, cells}
+use Rattle.rule.specs.Form.{mostBytes, padded, Accepted}
+use Rattle.rule.specs.Layout.{layoutOf}
+use Rattle.rule.proofs.Padded.{getD-padded}
+use Rattle.fixpoint.specs.Limits.{mostCells}
+use Rattle.fixpoint.specs.Mirror.{setup, sampleCode, endsDown, functionsUpto}
+use Rattle.fixpoint.proofs.Sets.{Sets}
+use Rattle.fixpoint.proofs.EndsMeaning.{ends-mean}
+use Rattle.fixpoint.proofs.FunctionsMeaning.{first-means, kinds-mean, count-means}
+
+pub trace-means : (bytes : List ℕ) (n i : ℕ) → i < n → sampleCode (padded 512 0 bytes) i ≡ pick (getD (samples bytes n) i false) 2 1
+unfolding sampleAt
+trace-means bytes n i h =
+    ap (λ (b : Bool). pick b 2 1) (ap (bitOf (i % 8)) (getD-padded 512 0 bytes (i / 8)) ∙ sym (samples-at bytes n i h))
+
+module _ {bytes : List ℕ} {P : Program} (a : Accepted bytes P) (trace : List ℕ) (n : ℕ) (few : n ≤ mostSamples) (fits : cells (samples trace n) P ≤ mostCells) where
+  pub sets : Sets P (samples trace n) bytes
+      (setup (padded mostBytes 0 bytes) (endsDown (padded mostBytes 0 bytes) (layoutOf P .params) (length bytes) 0 (replicate 4096 0)) (functionsUpto (layoutOf P .kinds) (layoutOf P .params) n (length P)) (padded 512 0 trace))
+  sets =
+      let t = samples trace n in
+      let same : length t ≡ n = length-samples trace n in
+      record {
+        short = a .short;
+        functions = a .few;
+        params = λ g f e. a .fits g f e .params;
+        samples = rw same few;
+        fits = fits;
+        code = refl;
+        ends = λ at Γ κ e rest narrow m d. ends-mean a at Γ κ e rest narrow m d;
+        first = λ g f e. rw same at (first-means a t g f e);
+        kinds = λ g f e. rw same at (kinds-mean a t g f e);
+        count = λ g f e. rw same at (count-means a t g f e);
+        trace = λ i h. trace-means trace n i (rw same at h);
+      }

@@ -1,0 +1,31 @@
+-- `next_index` meets its contract: below their bounds the product and the sum fit.
+use Prim.Native.Nat.{ℕ, _*_, _<_, _≤_}
+use native.Mathlib.Nat.{mul-le-mul}
+use native.Mathlib.Omega.{arith}
+use borrow.Author.Tests.{lt-ltb, le-ltb}
+use Rattle.fixpoint.proofs.codes.next_index.Statement.{statement}
+use Rattle.fixpoint.proofs.codes.next_index.Tie as tie
+
+product : (index radix : ℕ) → index < 4294967296 → radix < 65536 → index * radix ≤ 4294967295 * 65535
+product index radix h l = mul-le-mul {n₂ = 4294967295} {m₂ = 65535} (omega arith) (omega arith)
+
+mul-result : tie.Need-mul-result
+mul-result c = omega (arith, product _ _ (c .before .before .if1 .taken) (c .before .if2 .taken))
+
+add-result : tie.Need-add-result
+add-result c = omega (arith, product _ _ (c .before .before .if1 .taken) (c .before .if2 .taken))
+
+returns : tie.Need-returns
+returns c = simp (lt-ltb _ _ (c .before .before .if1 .taken), lt-ltb _ _ (c .before .if2 .taken), lt-ltb _ _ (c .if3 .taken))
+
+returns-2 : tie.Need-returns-2
+returns-2 c = simp (lt-ltb _ _ (c .before .before .if1 .taken), lt-ltb _ _ (c .before .if2 .taken), le-ltb _ _ (c .if3 .left))
+
+returns-3 : tie.Need-returns-3
+returns-3 c = simp (lt-ltb _ _ (c .before .if1 .taken), le-ltb _ _ (c .if2 .left))
+
+returns-4 : tie.Need-returns-4
+returns-4 c = simp (le-ltb _ _ (c .if1 .left))
+
+pub next-index-spec : {M : Type 1} → statement M
+next-index-spec = tie.close (tie.spec mul-result add-result returns returns-2 returns-3 returns-4)

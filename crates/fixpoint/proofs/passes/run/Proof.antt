@@ -1,0 +1,56 @@
+-- `run` meets its contract. Before each turn the passes made have all stored, and one of those left stores nothing.
+use mathlib.Core.Path.{_≡_}
+use Prim.Native.Nat.{ℕ, _-_, _<_, _≤_}
+use native.Mathlib.Omega.{arith}
+use lib.ListN.{length}
+use borrow.Author.Needs.{needs}
+use Rattle.fixpoint.specs.Mirror.{setup, mostPasses}
+use Rattle.fixpoint.proofs.PassWays.{Running, running-start, running-length, running-stop, running-more}
+use Rattle.fixpoint.proofs.passes.run.Statement.{statement}
+use Rattle.fixpoint.proofs.passes.run.Tie as tie
+
+abbrev Inv-loop : tie.InvT-loop
+Inv-loop code ends functions trace table₀ n starts count done₀ table done =
+    Running (setup code ends functions trace) n starts count mostPasses table₀ table done
+
+abbrev μ-loop : tie.MeasureT-loop
+μ-loop code ends functions trace table₀ n starts count done₀ table done = mostPasses - done
+
+loop-holds : tie.Need-loop-holds Inv-loop μ-loop
+loop-holds c = running-start _ _ _ _ mostPasses _ (omega arith) (c .before .pre .1)
+
+pass-requires : tie.Need-pass-requires Inv-loop μ-loop
+pass-requires c κs = rw (c .before .loop .inv .same) (c .before .before .before .pre .0)
+
+add-done : tie.Need-add-done Inv-loop μ-loop
+add-done c = search needs
+
+same-length : tie.Need-same-length Inv-loop μ-loop
+same-length c = running-length (c .before .before .before .before .before .loop .inv) (c .before .before .before .pass .ensures .0)
+
+returns : tie.Need-returns Inv-loop μ-loop
+returns c =
+    let called = c .before .before .before in
+    running-stop (called .before .before .loop .inv) (called .pass .ensures .0) (called .pass .ensures .1) (c .if1 .taken)
+
+loop-less : tie.Need-loop-less Inv-loop μ-loop
+loop-less c = omega (arith, c .before .before .before .before .before .loop .inv .below)
+
+loop-again : tie.Need-loop-again Inv-loop μ-loop
+loop-again c =
+    let called = c .before .before .before in
+    running-more (called .before .before .loop .inv) (called .pass .ensures .0) (called .pass .ensures .1) (c .if1 .left)
+
+pub run-spec : {M : Type 1} → statement M
+run-spec =
+    tie.close
+    (tie.spec
+    Inv-loop
+    μ-loop
+    loop-holds
+    pass-requires
+    add-done
+    same-length
+    returns
+    loop-less
+    loop-again)
