@@ -1,7 +1,8 @@
-"""An independent model of document 01, to compare the library with.
+"""A second implementation of document 01, to compare the library with.
 
-It is written from the document alone, and shares no text with the library. `python3 tests/model.py`
-prints what the program `cases` must print (crates/cases/stdout).
+It shares no code with the library. It decides each verdict twice, by passes and by a worklist over
+configurations; both take the outcome of an expression from one function. `python3 tests/model.py` prints
+what the program `cases` must print (crates/cases/stdout).
 """
 
 # ---- Ring and trace
