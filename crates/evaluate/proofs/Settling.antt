@@ -5,15 +5,14 @@
 --   settled-table, settled-left              what all passes leave
 --   settled-passes, settled-verdict          how many they are, and what they decide
 --   settled-pass, settled-stored             what one pass leaves and stores
-use Prim.Native.Nat.{ℕ, _+_, _<_, _≤_}
+use Prim.Native.Nat.{ℕ, _<_, _≤_}
 use native.Mathlib.Omega.{arith}
-use mathlib.Core.Path.{_≡_, refl, sym, ap, subst, _∙_}
+use mathlib.Core.Path.{_≡_, ap, _∙_}
 use mathlib.Core.List.{List, [], _∷_, _++_}
 use mathlib.Core.Option.{some}
 use lib.ListN.{length, getElem?, getD, drop, replicate, length-append, length-drop, length-replicate, List·getD-append}
 use Rattle.trace.specs.{bytesFor, samples}
 use Rattle.trace.proofs.Packing.{length-samples}
-use Rattle.semantics.specs.declared.Verdict.{Verdict}
 use Rattle.semantics.specs.declared.Decision.{Decision}
 use Rattle.semantics.specs.Language.{list, Function, Program, Trace}
 use Rattle.semantics.specs.Table.{cells, pass, passStores, finalTable, passCount, mainDecision, verdictOf}

@@ -1,17 +1,16 @@
 -- 'Evaluating' of document 01: its refusals (5 to 17, 20, 21), its answer and what it leaves in the table.
-use Prim.Native.Nat.{ℕ, _+_}
-use mathlib.Core.Bool.{Bool, true, false, not, _||_}
-use mathlib.Core.List.{List, [], _∷_, _++_}
+use Prim.Native.Nat.{ℕ}
+use mathlib.Core.Bool.{not, _||_}
+use mathlib.Core.List.{List, [], _++_}
 use lib.Dec.{eqb, ltb}
 use lib.ListN.{length, drop}
-use Rattle.refusal.specs.declared.Refusal.{Refusal}
 use Rattle.refusal.specs.declared.Refusal.the-variants.{TraceLength, TableShort}
 use Rattle.refusal.specs.declared.Check.{Check}
 use Rattle.refusal.specs.declared.Check.the-variants as check
 use Rattle.refusal.specs.{numberOf, refuseIf, _then_, changedIf}
 use Rattle.trace.specs.{mostSamples, bytesFor, samples}
 use Rattle.semantics.specs.declared.Verdict.{Verdict}
-use Rattle.semantics.specs.Language.{Program, Trace}
+use Rattle.semantics.specs.Language.{Program}
 use Rattle.semantics.specs.Table.{cells, pass, passStores, finalTable, verdictOf}
 use Rattle.rule.specs.Reading.{Parsed, got, refused, programFrom}
 use Rattle.fixpoint.specs.Limits.{mostCells}

@@ -1,7 +1,7 @@
 -- What a passed check leaves for the passes: the program, and where its functions and their cells stand.
 use Prim.Native.Nat.{ℕ, _≤_}
 use mathlib.Core.Path.{_≡_}
-use mathlib.Core.List.{List, []}
+use mathlib.Core.List.{List}
 use lib.ListN.{length}
 use Rattle.trace.specs.{mostSamples, bytesFor, samples}
 use Rattle.semantics.specs.Language.{Program}

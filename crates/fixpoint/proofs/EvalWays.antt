@@ -6,14 +6,13 @@
 --   call-none, call-args                         a call
 --   Along                                        a call that has gone past some of its arguments
 use mathlib.Core.Path.{_≡_, refl, sym, ap, _∙_}
-use mathlib.Core.Bool.{Bool, true, false}
+use mathlib.Core.Bool.{Bool, true}
 use mathlib.Core.List.{List}
 use Prim.Native.Nat.{ℕ, zero, suc, _+_, _-_, _<_, _≤_}
 use native.Mathlib.Numerals.{sub-one}
 use native.Mathlib.Omega.{arith}
-use lib.Dec.{ltb}
 use lib.ListN.{getD}
-use borrow.Author.Tests.{le-leb, lt-leb, lt-ltb, le-ltb, ltb-true, ne-eqb}
+use borrow.Author.Tests.{le-leb, lt-leb, lt-ltb, le-ltb, ne-eqb}
 use Rattle.trace.specs.{bitOf}
 use Rattle.semantics.specs.Language.{hd, tl, null}
 use Rattle.rule.specs.declared.Node.{Node}
@@ -21,7 +20,7 @@ use Rattle.rule.specs.declared.Node.the-variants as node
 use Rattle.rule.specs.Reading.{nodeOf}
 use Rattle.rule.proofs.NodeBytes.{node-param, node-op}
 use Rattle.fixpoint.proofs.SetupLoops.{few-bound}
-use Rattle.fixpoint.specs.Mirror.{Setup, headOf, tailOf, nullOf, heldCode, digitCode, radixOf, bound, nextIndex, few, firstOf, kindsOf, countOf, paramAt, endAt, lookupAt, stops, argsAt, nodeBy, evalAt, branchAt, callAt}
+use Rattle.fixpoint.specs.Mirror.{Setup, headOf, tailOf, nullOf, heldCode, digitCode, radixOf, bound, nextIndex, firstOf, kindsOf, countOf, paramAt, endAt, lookupAt, stops, argsAt, nodeBy, evalAt, branchAt, callAt}
 
 module _ (functions table : List ℕ) (n g index : ℕ) where
   pub lookup-far : bound ≤ firstOf functions g → lookupAt functions table n g index ≡ 0

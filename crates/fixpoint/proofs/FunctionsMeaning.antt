@@ -7,7 +7,7 @@
 use mathlib.Core.Path.{_≡_, refl, ap, _∙_}
 use mathlib.Core.Logic.{⊎-elim}
 use mathlib.Core.Bool.{Bool, true, false}
-use mathlib.Core.List.{List, [], _∷_, map}
+use mathlib.Core.List.{List, [], _∷_}
 use mathlib.Core.Option.{some}
 use Prim.Native.Nat.{ℕ, zero, suc, _+_, _<_, _≤_}
 use native.Mathlib.Nat.{eq-or-lt-of-le}
@@ -25,21 +25,9 @@ use Rattle.rule.specs.Layout.{layoutOf}
 use Rattle.rule.proofs.Padded.{getD-padded}
 use Rattle.rule.proofs.KindBytes.{kinds-back}
 use Rattle.rule.proofs.Expressions.{place-below}
+use Rattle.rule.proofs.LayoutMeaning.{there, getD-mapped}
 use Rattle.fixpoint.specs.Mirror.{radixOf, few, sizeFrom, firstOf, kindsOf, countOf, totalBefore, functionsUpto}
 use Rattle.fixpoint.proofs.Sets.{firstCell}
-
--- ---- The layout of a program
-
-getD-mapped : {A B : Type 0} (f : A → B) (l : List A) (i : ℕ) (a : A) (z : B) → getElem? l i ≡ some a → getD (map f l) i z ≡ f a
-getD-mapped f [] i a z e = let no : _≡_ {A = ℕ} 0 1 = cc in absurd (omega arith)
-getD-mapped f (x ∷ l) zero a z e = let same : x ≡ a = cc in ap f same
-getD-mapped f (x ∷ l) (suc i) a z e = getD-mapped f l i a z e
-
--- an element below the length is there
-there : {A : Type 0} (l : List A) (i : ℕ) → i < length l → (a : A) × (getElem? l i ≡ some a)
-there [] i h = absurd (omega arith)
-there (x ∷ l) zero h = (x, refl)
-there (x ∷ l) (suc i) h = there l i (omega arith)
 
 module _ (P : Program) (g : ℕ) (f : Function) (e : getElem? P g ≡ some f) where
   pub params-at : getD (layoutOf P .params) g 0 ≡ length (f .params)

@@ -1,6 +1,5 @@
 -- Visits and passes by places and numbers come to those of the rules:
 --   Runs                                what ties a run of passes to the program and the trace
---   found                               a place below the length has an element
 --   first-more, first-all               where the cells of the next function begin, and where all end
 --   covered                             every function has its cells within the table
 --   result-bit                          a function's result kind, by its kinds byte
@@ -26,6 +25,7 @@ use Rattle.semantics.proofs.Numbering.{values-in}
 use Rattle.rule.specs.Form.{mostParams, mostDepth, encodeExpr, depth, isList, kindsByte}
 use Rattle.rule.proofs.KindBytes.{kinds-back}
 use Rattle.rule.proofs.WalkMeaning.{kind-bit}
+use Rattle.rule.proofs.LayoutMeaning.{there}
 use Rattle.fixpoint.specs.Mirror.{heldCode, Setup, kindsOf, sizeOf, envAt, filledAt, storedAt, visitAt, oneUnless, functionVisits, functionStores, passVisits, passCounts, Covered}
 use Rattle.fixpoint.proofs.Sets.{firstCell, EnvOf, Sets}
 use Rattle.fixpoint.proofs.CellMeaning.{first-within, config-first, held-means}
@@ -42,11 +42,6 @@ pub record Runs (P : Program) (t : Trace) (bytes : List ℕ) (S : Setup) (starts
   pub deep : (g : ℕ) (f : Function) → getElem? P g ≡ some f → depth (f .body) ≤ mostDepth
 
 -- ---- Functions in their order
-
-pub found : {A : Type 0} (l : List A) (i : ℕ) → i < length l → (a : A) × (getElem? l i ≡ some a)
-found [] i h = absurd (omega arith)
-found (x ∷ l) zero h = (x, refl)
-found (x ∷ l) (suc i) h = found l i (omega arith)
 
 pub first-more : (t : Trace) (P : Program) (g : ℕ) (f : Function) → getElem? P g ≡ some f
     → firstCell t P (suc g) ≡ firstCell t P g + size t (f .params)
@@ -79,7 +74,7 @@ module _ (P : Program) (t : Trace) (bytes : List ℕ) (S : Setup) (starts : List
   covered len long = record {
     few = r .sets .functions;
     each = λ g h.
-        let f = found P g h in
+        let f = there P g h in
         record {
           below = omega (arith, r .sets .functions);
           samples = r .sets .samples;
@@ -147,7 +142,7 @@ module _ (P : Program) (t : Trace) (bytes : List ℕ) (S : Setup) (starts : List
     unfolding passVisits passCounts visits stores
     functions-mean zero h = (refl, refl)
     functions-mean (suc g) h =
-        let f = found P g h in
+        let f = there P g h in
         let all = size t (f .0 .params) in
         let more = first-more t P g (f .0) (f .1) in
         let before = functions-mean g (omega arith) in (

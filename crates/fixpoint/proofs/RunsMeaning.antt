@@ -1,22 +1,20 @@
 -- The passes of an accepted program run over its own arrays:
 --   runs     what ties the run to the program and the trace
-use Prim.Native.Nat.{ℕ, _<_, _≤_}
+use Prim.Native.Nat.{ℕ, _≤_}
 use mathlib.Core.Path.{_≡_}
 use mathlib.Core.List.{List, _++_}
 use mathlib.Core.Option.{some}
 use lib.ListN.{length, getElem?, getD, drop, replicate}
 use Rattle.trace.specs.{mostSamples, samples}
-use Rattle.trace.proofs.Packing.{length-samples}
 use Rattle.semantics.specs.Language.{Function, Program}
-use Rattle.semantics.specs.Table.{size, valuesAt, cells}
+use Rattle.semantics.specs.Table.{cells}
 use Rattle.rule.specs.Form.{mostFunctions, mostBytes, encodeExpr, padded, Accepted}
 use Rattle.rule.specs.Layout.{startsFrom, layoutOf}
 use Rattle.rule.proofs.Padded.{getD-padded}
 use Rattle.rule.proofs.Places.{body-at}
 use Rattle.fixpoint.specs.Limits.{mostCells}
-use Rattle.fixpoint.specs.Mirror.{setup, endsDown, functionsUpto, sizeOf, envAt}
-use Rattle.fixpoint.proofs.Sets.{EnvOf}
-use Rattle.fixpoint.proofs.FunctionsMeaning.{size-means, kinds-mean, count-means}
+use Rattle.fixpoint.specs.Mirror.{setup, endsDown, functionsUpto}
+use Rattle.fixpoint.proofs.FunctionsMeaning.{size-means}
 use Rattle.fixpoint.proofs.ValuesMeaning.{env-means}
 use Rattle.fixpoint.proofs.SetupMeaning.{sets}
 use Rattle.fixpoint.proofs.PassMeaning.{Runs}

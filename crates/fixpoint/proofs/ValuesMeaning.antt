@@ -15,11 +15,12 @@ use lib.Seq.{append-snoc, getD-set-other}
 use Rattle.trace.specs.{bitOf}
 use Rattle.semantics.specs.Language.{Kind, truth, list, Trace, Value, given}
 use Rattle.semantics.specs.Table.{kindSize, valueAt, size, valuesAt, codeOf}
-use Rattle.semantics.proofs.Numbering.{size-pos}
+use Rattle.semantics.proofs.Numbering.{size-pos, kind-pos}
 use Rattle.rule.specs.Form.{mostParams, isList, kindsByte}
 use Rattle.rule.specs.Reading.{kindAt, kindsFrom}
 use Rattle.rule.proofs.KindBytes.{kinds-back}
 use Rattle.rule.proofs.WalkMeaning.{kind-bit}
+use Rattle.rule.proofs.Scanning.{map-snoc}
 use Rattle.fixpoint.specs.Mirror.{valueCode, valuesInto}
 use Rattle.fixpoint.proofs.Sets.{EnvOf}
 use Rattle.fixpoint.proofs.FunctionsMeaning.{radix-means}
@@ -34,9 +35,6 @@ value-of t truth zero h = refl
 value-of t truth (suc zero) h = refl
 value-of t truth (suc (suc d)) h = absurd (omega arith)
 value-of t list d h = omega arith
-
-kind-pos : (t : Trace) (κ : Kind) → 0 < kindSize t κ
-kind-pos t κ = omega (arith, size-pos t (κ ∷ []))
 
 -- the last digit of a configuration, as the code takes it
 value-means : (t : Trace) (k i x : ℕ) → valueCode (bitOf i k) (x % kindSize t (kindAt k i)) ≡ numberOf (valueAt (kindAt k i) (x % kindSize t (kindAt k i)))
@@ -76,12 +74,6 @@ module _ (t : Trace) (κ : Kind) where
       ap (λ (d : ℕ). valueAt κ₀ d ∷ valuesAt t all y) top
       ∙ ap (λ (vs : List Value). valueAt κ₀ (x / K / S) ∷ vs)
       (values-snoc κs y (mod-lt x (size-pos t all)) ∙ ap (λ (d : ℕ). valuesAt t κs d ++ (valueAt κ (y % K) ∷ [])) high ∙ ap (λ (d : ℕ). valuesAt t κs (x / K % S) ++ (valueAt κ d ∷ [])) last)
-
--- ---- All of them
-
-map-snoc : {A B : Type 0} (f : A → B) (xs : List A) (x : A) → map f (xs ++ (x ∷ [])) ≡ map f xs ++ (f x ∷ [])
-map-snoc f [] x = refl
-map-snoc f (y ∷ ys) x = ap (λ (l : List _). f y ∷ l) (map-snoc f ys x)
 
 -- what is written at a place, and what stands after it
 drop-written : (l : List ℕ) (i v : ℕ) → i < length l → drop i (set l i v) ≡ v ∷ drop (suc i) l

@@ -3,6 +3,7 @@
 --   AllSound, all-sound                  their headers are not refused, and their bodies as long as these say
 --   layout-means                         their layout is that of the program they are read as
 --   layout-params, layout-kinds, layout-starts, layout-ends   what stands in it at each place
+--   there, getD-mapped                   an element of a list by its place, and its image
 --   placed                               each of them lies within the program
 --   rawFrame, framed, fitting            the check of each works on a frame that fits it
 use mathlib.Core.Path.{_≡_, refl, sym, ap, _∙_}
@@ -200,7 +201,7 @@ layout-means xs P rest sound q =
 -- ---- Where they stand
 
 -- an element below the length is there
-there : {A : Type 0} (l : List A) (i : ℕ) → i < length l → (a : A) × (getElem? l i ≡ some a)
+pub there : {A : Type 0} (l : List A) (i : ℕ) → i < length l → (a : A) × (getElem? l i ≡ some a)
 there [] i h = absurd (omega arith)
 there (x ∷ l) zero h = (x, refl)
 there (x ∷ l) (suc i) h = there l i (omega arith)
@@ -211,7 +212,7 @@ mapped f [] i b e = let z : _≡_ {A = ℕ} 0 1 = cc in absurd (omega arith)
 mapped f (x ∷ l) zero b e = (x, refl, cc)
 mapped f (x ∷ l) (suc i) b e = mapped f l i b e
 
-getD-mapped : {A B : Type 0} (f : A → B) (l : List A) (i : ℕ) (a : A) (z : B) → getElem? l i ≡ some a → getD (map f l) i z ≡ f a
+pub getD-mapped : {A B : Type 0} (f : A → B) (l : List A) (i : ℕ) (a : A) (z : B) → getElem? l i ≡ some a → getD (map f l) i z ≡ f a
 getD-mapped f [] i a z e = let no : _≡_ {A = ℕ} 0 1 = cc in absurd (omega arith)
 getD-mapped f (x ∷ l) zero a z e = let same : x ≡ a = cc in ap f same
 getD-mapped f (x ∷ l) (suc i) a z e = getD-mapped f l i a z e

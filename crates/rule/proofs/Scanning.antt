@@ -1,5 +1,6 @@
 -- Laws of the headers read one after the other:
 --   Scanned           some headers have been read: their layout, and what is left to read
+--   map-snoc          the images of a list with one more element
 --   scan-refused, scan-passed   what the code answers
 use mathlib.Core.Path.{_≡_, refl, sym, ap, _∙_}
 use mathlib.Core.Bool.{Bool, true, false, _||_}
@@ -54,7 +55,7 @@ unfolding rawEnds
 length-ends at [] = refl
 length-ends at (x ∷ xs) = ap suc (length-ends (at + 4 + x .header .length) xs)
 
-map-snoc : {A B : Type 0} (f : A → B) (xs : List A) (x : A) → map f (xs ++ (x ∷ [])) ≡ map f xs ++ (f x ∷ [])
+pub map-snoc : {A B : Type 0} (f : A → B) (xs : List A) (x : A) → map f (xs ++ (x ∷ [])) ≡ map f xs ++ (f x ∷ [])
 map-snoc f [] x = refl
 map-snoc f (y ∷ ys) x = ap (λ (l : List _). f y ∷ l) (map-snoc f ys x)
 

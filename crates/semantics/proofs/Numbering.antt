@@ -1,5 +1,5 @@
 -- The numbers of configurations, for any number of parameters and functions:
---   size-pos, number-lt                         there is one, and a configuration's number is below their count
+--   kind-pos, size-pos, number-lt               there is one, and a configuration's number is below their count
 --   values-number, number-values, values-in     numbers and values of their kinds are inverse to each other
 --   cell-lt, config-cell                        the cell of a configuration is a cell, and stands for it
 --   Place, here, place                          each cell is some configuration's
@@ -20,7 +20,7 @@ use Rattle.semantics.specs.Table.{kindSize, digitOf, valueAt, size, numb
 
 -- ---- One digit
 
-kind-pos : (t : Trace) (κ : Kind) → 0 < kindSize t κ
+pub kind-pos : (t : Trace) (κ : Kind) → 0 < kindSize t κ
 kind-pos t truth = omega arith
 kind-pos t list = omega arith
 

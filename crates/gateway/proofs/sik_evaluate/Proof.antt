@@ -1,5 +1,5 @@
 -- `sik_evaluate` meets its contract: what `answer_with` makes of what evaluating answers.
-use mathlib.Core.Path.{ap, sym, _∙_}
+use mathlib.Core.Path.{ap, _∙_}
 use denote.Ref.{now}
 use borrow.Author.Needs.{needs}
 use Rattle.evaluate.specs.Evaluate.{evaluatedNumber}

@@ -2,7 +2,6 @@
 use mathlib.Core.Path.{_≡_}
 use mathlib.Core.List.{_++_}
 use lib.ListN.{drop}
-use native.Mathlib.Omega.{arith}
 use Rattle.trace.specs.{samples}
 use Rattle.semantics.specs.Table.{finalTable}
 use Rattle.evaluate.proofs.Settling.{trace-short, settled-covered, settled-length, settled-ends, settled-table, settled-passes, settled-within, settled-left, settled-verdict}

@@ -1,5 +1,5 @@
 -- `prepare` meets its contract: each check in its order, and what a passed one leaves.
-use mathlib.Core.Path.{_≡_, sym, _∙_}
+use mathlib.Core.Path.{sym, _∙_}
 use native.Mathlib.Omega.{arith}
 use lib.ListN.{length}
 use Rattle.refusal.proofs.Numbers.{refused}

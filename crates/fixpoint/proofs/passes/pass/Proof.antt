@@ -1,8 +1,6 @@
 -- `pass` meets its contract. Before each turn the functions below g have been visited.
-use mathlib.Core.Path.{_≡_, refl, ap, _∙_}
-use Prim.Native.Nat.{ℕ, _-_, _<_, _≤_}
+use Prim.Native.Nat.{_-_, _≤_}
 use native.Mathlib.Omega.{arith}
-use lib.ListN.{length, getD}
 use borrow.Author.Needs.{needs}
 use Rattle.fixpoint.specs.Mirror.{setup}
 use Rattle.fixpoint.proofs.PassWays.{Covering, covering-start, covering-more, covering-end}

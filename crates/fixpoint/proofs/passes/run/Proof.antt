@@ -1,8 +1,6 @@
 -- `run` meets its contract. Before each turn the passes made have all stored, and one of those left stores nothing.
-use mathlib.Core.Path.{_≡_}
-use Prim.Native.Nat.{ℕ, _-_, _<_, _≤_}
+use Prim.Native.Nat.{_-_}
 use native.Mathlib.Omega.{arith}
-use lib.ListN.{length}
 use borrow.Author.Needs.{needs}
 use Rattle.fixpoint.specs.Mirror.{setup, mostPasses}
 use Rattle.fixpoint.proofs.PassWays.{Running, running-start, running-length, running-stop, running-more}
