@@ -54,6 +54,27 @@ uint32_t sik_check_program(const uint8_t *program, size_t program_len);
 uint32_t sik_evaluate(const uint8_t *program, size_t program_len, const uint8_t *trace, size_t trace_len, uint64_t n,
                       uint16_t *table, size_t table_len, uint64_t answer[2]);
 
+/* Reads the record that the bytes end in, from the last byte backwards; bytes before it do not matter.
+ * Answers 0 if there is one, and writes where its parts stand in the bytes, and the numbers stored in it:
+ *   parts[0], parts[1]  the program's first byte and its length
+ *   parts[2], parts[3]  the trace's first byte and its length
+ *   parts[4]            n, the number of samples
+ *   parts[5]            the first of the eight bytes of the site label
+ *   parts[6]            the verdict: 0 forever, 1 no (False), 2 yes (True), 3 head of empty, 4 tail of empty
+ *   parts[7]            the pass count
+ *   parts[8]            how many bytes stand before the record, which is where a walk goes on
+ * The stored verdict is only read, not worked out again. Else answers the number of the refusal, and changes
+ * no part:
+ *    1  fewer than eight bytes remain for a trailer
+ *    2  the mark is not 0x52 or the format is not 1
+ *    3  n is above 4,095, the second distance is not n / 8 rounded up plus 13, the first is not larger than the
+ *       second, or the first exceeds the bytes before the trailer
+ *    4  the verdict byte is above 4 or the pass count is 0
+ *    5 to 17  the record's program, as sik_check_program
+ * The lowest number that applies is answered. The parts must not overlap the bytes.
+ */
+uint32_t sik_read_record(const uint8_t *bytes, size_t bytes_len, uint64_t parts[9]);
+
 #ifdef __cplusplus
 }
 #endif

@@ -12,7 +12,7 @@ ghost use Rattle.semantics.specs.Language.{Program};
 ghost use Rattle.semantics.specs.Demand.{Decides};
 ghost use Rattle.rule.specs.Form.{Accepted};
 ghost use Rattle.evaluate.specs.declared.Evaluated.the-variants as Evaluated;
-ghost use Rattle.evaluate.specs.Evaluate.{evaluation, tableEvaluated, passMade, tablePassed};
+ghost use Rattle.evaluate.specs.Evaluate.{evaluateCheck, evaluation, tableEvaluated, passMade, tablePassed};
 
 // The most cells of a table.
 pub const MOST_CELLS: u64 = 16777216;
@@ -27,6 +27,14 @@ pub enum Evaluated {
 pub enum PassMade {
     Stored(usize),
     Refused(Refusal),
+}
+
+// What evaluating in so many cells would be refused for, with nothing evaluated.
+pub fn check(program: &[u8], trace: &[u8], n: usize, lent: usize) -> Check
+    ensures { λ r. ⌜ r ≡ evaluateCheck (now (program .entry)) (now (trace .entry)) n lent ⌝ }
+{
+    let ready = prepare::prepare(program, trace, n, lent);
+    ready.check
 }
 
 // Evaluates a program on a packed trace of n samples. The table takes the cells; those beyond them keep

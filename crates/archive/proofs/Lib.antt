@@ -1,0 +1,4 @@
+pub mod Lengths
+pub mod Walking
+pub mod Archive
+pub mod Listing

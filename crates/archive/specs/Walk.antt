@@ -1,0 +1,65 @@
+-- Walking an archive, of document 01: 'records end to end, read from its last byte backwards'.
+use Prim.Native.Nat.{ℕ, zero, suc}
+use mathlib.Core.List.{List, [], _∷_, _++_}
+use lib.ListN.{length, take}
+use Rattle.refusal.specs.declared.Refusal.{Refusal}
+use Rattle.refusal.specs.declared.Check.{Check}
+use Rattle.refusal.specs.declared.Check.the-variants as check
+use Rattle.record.specs.declared.Parts.{Parts}
+use Rattle.record.specs.declared.Reading.{Reading}
+use Rattle.record.specs.declared.Reading.the-variants as read
+use Rattle.record.specs.Form.{Contents, layout}
+use Rattle.record.specs.Reading.{contentsAt, reading}
+use Rattle.archive.specs.declared.Step.{Step}
+use Rattle.archive.specs.declared.Step.the-variants as step
+
+-- 'an archive is records end to end'
+unfoldable pub archiveOf : List Contents → List ℕ
+archiveOf [] = []
+archiveOf (c ∷ cs) = layout c ++ archiveOf cs
+
+-- ---- One step
+
+abbrev pub stepBy : Reading → Step
+stepBy (read.Record p) = step.Record p
+stepBy (read.Refused f) = step.Refused f
+
+-- what the bytes end in; 'no bytes left is the end'
+abbrev pub stepIn : List ℕ → Step
+stepIn [] = step.End
+stepIn (b ∷ bs) = stepBy (reading (b ∷ bs))
+
+-- ---- The whole walk
+
+-- records from the last on, and what comes after the last that is found: the end, or a refusal
+pub data Walk : Type 0 where
+  ended : Walk
+  stopped : Refusal → Walk
+  -- the bytes that end in a record, its parts, and the walk of the bytes before it
+  found : List ℕ → Parts → Walk → Walk
+
+abbrev pub onward : List ℕ → Step → (Parts → Walk) → Walk
+onward bytes step.End k = ended
+onward bytes (step.Record p) k = found bytes p (k p)
+onward bytes (step.Refused f) k = stopped f
+
+-- at most so many steps
+unfoldable pub walkIn : ℕ → List ℕ → Walk
+walkIn zero bytes = ended
+walkIn (suc k) bytes = onward bytes (stepIn bytes) (λ p. walkIn k (take (p .program .start) bytes))
+
+-- a record has bytes, so there are no more steps than bytes
+unfoldable pub walk : List ℕ → Walk
+walk bytes = walkIn (length bytes) bytes
+
+-- the records that are found, the last first
+abbrev pub records : Walk → List Contents
+records ended = []
+records (stopped f) = []
+records (found bytes p w) = contentsAt bytes p ∷ records w
+
+-- how it ends: with no bytes left, or with a refusal
+abbrev pub ending : Walk → Check
+ending ended = check.Passed
+ending (stopped f) = check.Refused f
+ending (found bytes p w) = ending w

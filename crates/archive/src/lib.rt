@@ -1,0 +1,62 @@
+// Archives: records end to end, walked from the last byte backwards, and the text that lists them.
+mod lines;
+
+use record::Parts;
+use record::Reading;
+use refusal::Refusal;
+ghost use mathlib.Core.Path.{_≡_};
+ghost use lib.ListN.{length, take};
+ghost use Rattle.encoding.specs.{begins};
+ghost use Rattle.archive.specs.Walk.{stepIn};
+ghost use Rattle.archive.specs.Listing.{listing};
+
+// The longest archive that is listed, the cells that its records are checked in, and room for the text: a
+// record of at least 22 bytes has a line of at most 44.
+pub const MOST_ARCHIVE: usize = 32768;
+
+pub const CELLS: usize = 16384;
+
+pub const TEXT: usize = 65600;
+
+// What stands last in an archive.
+pub enum Step {
+    End,
+    Record(Parts),
+    Refused(Refusal),
+}
+
+// The last record among the first `left` bytes of an archive. The bytes before it, with which a walk goes
+// on, are those before its program.
+pub fn last(archive: &[u8], left: usize) -> Step
+    ensures { λ r. ⌜ r ≡ stepIn (take left (now (archive .entry))) ⌝ }
+{
+    if left < archive.len() {
+        return step_of(&archive[..left]);
+    }
+    step_of(archive)
+}
+
+// What some bytes end in.
+fn step_of(bytes: &[u8]) -> Step
+    ensures { λ r. ⌜ r ≡ stepIn (now (bytes .entry)) ⌝ }
+{
+    if bytes.len() == 0 {
+        return Step::End;
+    }
+    match record::read(bytes) {
+        Reading::Record(parts) => Step::Record(parts),
+        Reading::Refused(refusal) => Step::Refused(refusal),
+    }
+}
+
+// Writes the listing of an archive to the front of the output, and answers how long it is.
+pub fn list(archive: &[u8], out: &mut [u8; 65600]) -> usize
+    ensures size { λ r. ⌜ r ≡ length (listing (now (archive .entry))) ⌝ }
+    ensures output { λ _. ⌜ now (out .exit) ≡ begins (listing (now (archive .entry))) (now (out .entry)) ⌝ }
+{
+    if MOST_ARCHIVE < archive.len() {
+        return encoding::put(out, 0, b"too long\n");
+    }
+    let mut table = [0u16; 16384];
+    lines::lines(archive, &mut table, out)
+}

@@ -1,0 +1,187 @@
+-- Reading and checking a record in one, by evaluating what it holds:
+--   check-is, table-is         checking refuses and leaves what evaluating does
+--   refused-both               a record whose trailer is refused
+--   verdict-told, refused-told     what an answer of evaluating comes to
+--   trailer-refused, verdict-promised,
+--   refused-promised               all that is promised, with demand 3 of the verdict worked out
+use mathlib.Core.Path.{_≡_, refl, sym, ap, _∙_}
+use mathlib.Core.Bool.{Bool, true, false}
+use mathlib.Core.List.{List, _++_}
+use Prim.Native.Nat.{ℕ}
+use native.Mathlib.Omega.{arith}
+use lib.ListN.{length, drop}
+use borrow.Author.Tests.{le-ltb, eq-eqb}
+use Rattle.refusal.specs.declared.Refusal.{Refusal}
+use Rattle.refusal.specs.declared.Check.{Check}
+use Rattle.refusal.specs.declared.Check.the-variants.{Passed, Refused}
+use Rattle.refusal.specs.{_then_, changedIf}
+use Rattle.trace.specs.{mostSamples, bytesFor, samples}
+use Rattle.semantics.specs.declared.Verdict.{Verdict}
+use Rattle.semantics.specs.Language.{Program}
+use Rattle.semantics.specs.Table.{cells, finalTable, verdictOf}
+use Rattle.semantics.specs.Demand.{Decides}
+use Rattle.rule.specs.Form.{Accepted}
+use Rattle.rule.specs.Reading.{Parsed, got, programFrom, programCheck, checkFrom}
+use Rattle.rule.specs.Reading as reading
+use Rattle.evaluate.specs.declared.Evaluated.{Evaluated}
+use Rattle.evaluate.specs.declared.Evaluated.the-variants as evaluated
+use Rattle.evaluate.specs.Evaluate.{traceCheck, tableCheck, checkRead, evaluateCheck, programIn, answerBy, evaluation, tableEvaluated}
+use Rattle.record.specs.declared.Parts.{Parts}
+use Rattle.record.specs.declared.Reading.{Reading}
+use Rattle.record.specs.declared.Reading.the-variants as read
+use Rattle.record.specs.declared.Checked.{Checked}
+use Rattle.record.specs.declared.Checked.the-variants as checked
+use Rattle.record.specs.declared.Examined.{Examined}
+use Rattle.record.specs.Form.{Contents, samplesOf, afterTrace}
+use Rattle.record.specs.Reading.{partOf, contentsIn, trailerCheck, partsIn, readCheck, readBy}
+use Rattle.record.specs.Reading.{reading as readingOf}
+use Rattle.record.specs.Checking.{programOf, checkCheck, agrees, compared, checkedBy, checking, tableChecked, Holds, examining}
+use Rattle.record.specs.Steps.{located, bothRefused, refusedBy}
+use Rattle.record.proofs.Answers.{evaluation-refused, evaluation-passed, located-refusal, located-passed, parts-are}
+use Rattle.record.proofs.Fields.{then-passed, Fields, passed-fields}
+use Rattle.record.proofs.Places.{length-part}
+
+-- ---- The checks
+
+-- evaluating judges the program, then the trace, then the cells
+judged : (p : Parsed Program) (trace : List ℕ) (n lent : ℕ) → traceCheck n (length trace) ≡ Passed
+    → (checkFrom p then tableCheck (cells (samples trace n) (programIn p)) lent) ≡ checkRead p trace n lent
+judged (got P rest) trace n lent t = rw t
+judged (reading.refused f) trace n lent t = refl
+
+module _ (bytes : List ℕ) (passed : trailerCheck bytes ≡ Passed) where
+  abbrev c : Contents
+  c = contentsIn bytes
+
+  trace-fits : traceCheck (c .n) (length (c .trace)) ≡ Passed
+  unfolding partsIn
+  trace-fits =
+      let f = passed-fields bytes passed in
+      let size : length (c .trace) ≡ bytesFor (c .n) = length-part bytes _ _ (omega arith) ∙ omega arith in
+      rw (le-ltb mostSamples (c .n) (f .few), eq-eqb (length (c .trace)) (bytesFor (c .n)) size)
+
+  pub check-is : (lent : ℕ) → checkCheck bytes lent ≡ evaluateCheck (c .program) (c .trace) (c .n) lent
+  unfolding checkCheck readCheck evaluateCheck programCheck
+  check-is lent = rw passed (judged (programFrom (c .program)) (c .trace) (c .n) lent trace-fits)
+
+  pub table-is : (T : List ℕ) {T′ : List ℕ} → T′ ≡ tableEvaluated (c .program) (c .trace) (c .n) T → T′ ≡ tableChecked bytes T
+  unfolding tableEvaluated tableChecked
+  table-is T e = e ∙ rw (check-is (length T))
+
+-- ---- Answers
+
+-- a trailer that is refused
+pub refused-both : (bytes : List ℕ) (T : List ℕ) {f : Refusal} → trailerCheck bytes ≡ Refused f
+    → (bothRefused f ≡ examining bytes (length T)) × (T ≡ tableChecked bytes T)
+unfolding examining readingOf checking tableChecked checkCheck readCheck
+refused-both bytes T e = (rw e, rw e)
+
+-- an answer in its two parts
+examined : (bytes : List ℕ) (lent : ℕ) {a : Reading} {b : Checked} → a ≡ readingOf bytes → b ≡ checking bytes lent
+    → record { reading = a; checked = b } ≡ examining bytes lent
+unfolding examining
+examined bytes lent p q = rw (p, q)
+
+-- what reading and checking answer by their checks
+read-is : (bytes : List ℕ) {k : Check} → readCheck bytes ≡ k → readBy k (partsIn bytes) ≡ readingOf bytes
+unfolding readingOf
+read-is bytes e = rw e
+
+checked-is : (bytes : List ℕ) (lent : ℕ) {k : Check} → checkCheck bytes lent ≡ k
+    → checkedBy k (contentsIn bytes) (verdictOf (programOf (contentsIn bytes)) (samplesOf (contentsIn bytes))) ≡ checking bytes lent
+unfolding checking
+checked-is bytes lent e = rw e
+
+-- a record that checking does not refuse is read
+read-first : (bytes : List ℕ) (lent : ℕ) → checkCheck bytes lent ≡ Passed → readCheck bytes ≡ Passed
+unfolding checkCheck
+read-first bytes lent e = then-passed (readCheck bytes) _ e .0
+
+module _ (bytes T : List ℕ) (passed : trailerCheck bytes ≡ Passed) {r : Evaluated}
+    (e : r ≡ evaluation (contentsIn bytes .program) (contentsIn bytes .trace) (contentsIn bytes .n) (length T)) where
+  abbrev held : Contents
+  held = contentsIn bytes
+
+  pub verdict-told : {w : Verdict} → r ≡ evaluated.Verdict w
+      → record { reading = read.Record (partsIn bytes); checked = compared (agrees (held .verdict) (held .passes) w) w } ≡ examining bytes (length T)
+  verdict-told {w} q =
+      let t = evaluation-passed (held .program) (held .trace) (held .n) (length T) e q in
+      let all : checkCheck bytes (length T) ≡ Passed = check-is bytes passed (length T) ∙ t .0 in
+      examined bytes (length T) (read-is bytes (read-first bytes (length T) all)) (rw (← t .1) (checked-is bytes (length T) all))
+
+  -- the program's check decides whether a record that evaluating refuses is read
+  pub refused-told : {f : Refusal} → r ≡ evaluated.Refused f → refusedBy (programCheck (held .program)) (partsIn bytes) f ≡ examining bytes (length T)
+  unfolding readCheck checkCheck
+  refused-told {f} q = go (programCheck (held .program)) refl
+    where
+      all : checkCheck bytes (length T) ≡ Refused f
+      all = check-is bytes passed (length T) ∙ evaluation-refused (held .program) (held .trace) (held .n) (length T) e q
+
+      read-by : readCheck bytes ≡ programCheck (held .program)
+      read-by = rw passed
+
+      all-by : {g : Refusal} → programCheck (held .program) ≡ Refused g → Refused f ≡ Refused g
+      all-by k = sym all ∙ rw (read-by ∙ k)
+
+      go : (k : Check) → programCheck (held .program) ≡ k → refusedBy k (partsIn bytes) f ≡ examining bytes (length T)
+      go Passed k = examined bytes (length T) (read-is bytes (read-by ∙ k)) (checked-is bytes (length T) all)
+      go (Refused g) k = examined bytes (length T) (ap (λ (x : Check). readBy x (partsIn bytes)) (all-by k) ∙ read-is bytes (read-by ∙ k)) (checked-is bytes (length T) all)
+
+-- ---- Demand 3
+
+-- of the verdict that was compared
+compared-decides : (A : Verdict → Type 0) (b : Bool) (w : Verdict) → ((v : Verdict) → evaluated.Verdict w ≡ evaluated.Verdict v → A v)
+    → (v : Verdict) → Holds (compared b w) v → A v
+compared-decides A true w d v e = d v (ap evaluated.Verdict e)
+compared-decides A false w d v e = d v (ap evaluated.Verdict e)
+
+-- a refusal holds no verdict
+refused-holds : (k : Check) (p : Parts) (f : Refusal) (v : Verdict) → Holds (refusedBy k p f .checked) v → ⊥
+refused-holds Passed p f v h = h
+refused-holds (Refused g) p f v h = h
+
+-- ---- All that is promised of an answer
+
+-- demand 3 of a verdict, of what the bytes hold and a table
+abbrev Decided : List ℕ → List ℕ → Verdict → Type 0
+Decided bytes T v = (P : Program) × Accepted (contentsIn bytes .program) P × Decides P (samplesOf (contentsIn bytes)) v T
+
+-- the answer, the table, and demand 3 of the verdict worked out
+abbrev Promised : List ℕ → List ℕ → List ℕ → Examined → Type 0
+Promised bytes T T′ r =
+    (r ≡ examining bytes (length T)) × ((T′ ≡ tableChecked bytes T) × ((v : Verdict) → Holds (r .checked) v → Decided bytes T′ v))
+
+pub trailer-refused : (bytes T : List ℕ) {l : Reading} {f : Refusal} {r : Examined} → l ≡ located bytes → l ≡ read.Refused f → r ≡ bothRefused f
+    → Promised bytes T T r
+trailer-refused bytes T {l} {f} {r} q e b =
+    let w = refused-both bytes T (located-refusal bytes q e) in
+    (b ∙ w .0, (w .1, λ v h. absurd (rw b at h)))
+
+module _ (bytes T T′ : List ℕ) {l : Reading} (q : l ≡ located bytes) {p : Parts} (e : l ≡ read.Record p) {program trace : List ℕ}
+    (pp : program ≡ partOf bytes (p .program)) (pt : trace ≡ partOf bytes (p .trace)) {a : Evaluated}
+    (told : a ≡ evaluation program trace (p .n) (length T)) (left : T′ ≡ tableEvaluated program trace (p .n) T)
+    (decides : (v : Verdict) → a ≡ evaluated.Verdict v → (P : Program) × Accepted program P × Decides P (samples trace (p .n)) v T′) where
+  are : p ≡ partsIn bytes
+  are = sym (parts-are bytes q e)
+
+  passed : trailerCheck bytes ≡ Passed
+  passed = located-passed bytes q e
+
+  told-in : a ≡ evaluation (contentsIn bytes .program) (contentsIn bytes .trace) (contentsIn bytes .n) (length T)
+  told-in = rw (pp, pt, are) at told
+
+  left-in : T′ ≡ tableChecked bytes T
+  left-in = table-is bytes passed T (rw (pp, pt, are) at left)
+
+  decides-in : (v : Verdict) → a ≡ evaluated.Verdict v → Decided bytes T′ v
+  decides-in = rw (pp, pt, are) at decides
+
+  pub verdict-promised : {w : Verdict} {k : Checked} → a ≡ evaluated.Verdict w → k ≡ compared (agrees (p .verdict) (p .passes) w) w
+      → Promised bytes T T′ (record { reading = read.Record p; checked = k })
+  verdict-promised {w} {k} h c =
+      (rw (c, are) (verdict-told bytes T passed told-in h), (left-in, rw c (compared-decides (Decided bytes T′) (agrees (p .verdict) (p .passes) w) w (rw h at decides-in))))
+
+  pub refused-promised : {f : Refusal} {r : Examined} {program′ : List ℕ} → a ≡ evaluated.Refused f → program′ ≡ partOf bytes (p .program)
+      → r ≡ refusedBy (programCheck program′) p f → Promised bytes T T′ r
+  refused-promised {f} {r} {program′} h pr c =
+      (c ∙ rw (pr, are) (refused-told bytes T passed told-in h), (left-in, λ v u. absurd (refused-holds (programCheck program′) p f v (rw c at u))))

@@ -1,0 +1,80 @@
+-- Refusals 1 to 4, of the trailer and of what stands before it:
+--   then-passed, refuse-passed         what a check that passed has seen
+--   Fields                             what 1 to 4 leave
+--   passed-fields, fields-passed       the check passes exactly where that holds
+use mathlib.Core.Path.{_≡_, refl}
+use mathlib.Core.Bool.{Bool, true, false}
+use mathlib.Core.List.{List}
+use Prim.Native.Nat.{ℕ, _+_, _<_, _≤_}
+use native.Mathlib.Omega.{arith}
+use lib.ListN.{length}
+use borrow.Author.Tests.{ltb-false, leb-false, eqb-true, eqb-false, not-false, le-ltb, lt-leb, eq-eqb, ne-eqb}
+use Rattle.refusal.specs.declared.Refusal.{Refusal}
+use Rattle.refusal.specs.declared.Check.{Check}
+use Rattle.refusal.specs.declared.Check.the-variants.{Passed, Refused}
+use Rattle.refusal.specs.{refuseIf, _then_}
+use Rattle.refusal.proofs.Numbers.{refused}
+use Rattle.rule.proofs.Tests.{neither}
+use Rattle.trace.specs.{mostSamples, bytesFor}
+use Rattle.record.specs.Form.{format, mark, trailerBytes, afterTrace, mostVerdict}
+use Rattle.record.specs.Reading.{trailerAt, programDistanceIn, traceDistanceIn, samplesIn, formatIn, markIn, verdictIn, passesIn, trailerCheck}
+
+pub then-passed : (a b : Check) → (a then b) ≡ Passed → (a ≡ Passed) × (b ≡ Passed)
+then-passed Passed b e = (refl, e)
+then-passed (Refused f) b e = absurd (refused e)
+
+pub refuse-passed : (b : Bool) (f : Refusal) → refuseIf b f ≡ Passed → b ≡ false
+refuse-passed true f e = absurd (refused e)
+refuse-passed false f e = refl
+
+-- what 1 to 4 leave
+pub record Fields (bytes : List ℕ) : Type 0 where
+  pub room : trailerBytes ≤ length bytes
+  pub marked : markIn bytes ≡ mark
+  pub formatted : formatIn bytes ≡ format
+  pub few : samplesIn bytes ≤ mostSamples
+  pub second : traceDistanceIn bytes ≡ bytesFor (samplesIn bytes) + afterTrace
+  pub larger : traceDistanceIn bytes < programDistanceIn bytes
+  pub before : programDistanceIn bytes ≤ trailerAt bytes
+  pub verdict : verdictIn bytes ≤ mostVerdict
+  pub some : 1 ≤ passesIn bytes
+
+pub fields-passed : (bytes : List ℕ) → Fields bytes → trailerCheck bytes ≡ Passed
+unfolding trailerCheck
+fields-passed bytes f =
+    let none : passesIn bytes ≡ 0 → ⊥ = λ e. omega arith in
+    rw (
+      le-ltb (length bytes) trailerBytes (f .room),
+      eq-eqb (markIn bytes) mark (f .marked),
+      eq-eqb (formatIn bytes) format (f .formatted),
+      le-ltb mostSamples (samplesIn bytes) (f .few),
+      eq-eqb (traceDistanceIn bytes) (bytesFor (samplesIn bytes) + afterTrace) (f .second),
+      lt-leb (programDistanceIn bytes) (traceDistanceIn bytes) (f .larger),
+      le-ltb (trailerAt bytes) (programDistanceIn bytes) (f .before),
+      le-ltb mostVerdict (verdictIn bytes) (f .verdict),
+      ne-eqb (passesIn bytes) 0 none,
+    )
+
+pub passed-fields : (bytes : List ℕ) → trailerCheck bytes ≡ Passed → Fields bytes
+unfolding trailerCheck
+passed-fields bytes e =
+    let c1 = then-passed _ _ e in
+    let c2 = then-passed _ _ (c1 .1) in
+    let c3 = then-passed _ _ (c2 .1) in
+    let f2 = neither _ _ (refuse-passed _ _ (c2 .0)) in
+    let f3 = neither _ _ (refuse-passed _ _ (c3 .0)) in
+    let f3′ = neither _ _ (f3 .1) in
+    let f3″ = neither _ _ (f3′ .1) in
+    let f4 = neither _ _ (refuse-passed _ _ (c3 .1)) in
+    let none = eqb-false (passesIn bytes) 0 (f4 .1) in
+    record {
+      room = ltb-false _ _ (refuse-passed _ _ (c1 .0));
+      marked = eqb-true _ _ (not-false _ (f2 .0));
+      formatted = eqb-true _ _ (not-false _ (f2 .1));
+      few = ltb-false _ _ (f3 .0);
+      second = eqb-true _ _ (not-false _ (f3′ .0));
+      larger = leb-false _ _ (f3″ .0);
+      before = ltb-false _ _ (f3″ .1);
+      verdict = ltb-false _ _ (f4 .0);
+      some = omega arith;
+    }

@@ -1,0 +1,162 @@
+-- What recording writes is read and checked as it was worked out:
+--   recorded-samples       the samples of what is recorded are those of the trace
+--   recorded-stated        what is recorded is what a record can hold
+--   written-reads-back     so it is read back
+--   written-agrees         and checking it answers agrees
+use mathlib.Core.Path.{_≡_, refl, ap, _∙_}
+use mathlib.Core.Bool.{_||_}
+use mathlib.Core.List.{List, [], _++_, append-nil}
+use mathlib.Core.Option.{Option, none, some}
+use Prim.Native.Nat.{ℕ, suc, _^_, _<_, _≤_}
+use native.Mathlib.Omega.{arith}
+use lib.Dec.{ltb}
+use lib.ListN.{length}
+use borrow.Author.Tests.{ltb-false, eq-eqb}
+use Rattle.refusal.specs.declared.Refusal.the-variants.{TableShort}
+use Rattle.refusal.specs.declared.Check.the-variants as check
+use Rattle.refusal.specs.{_then_}
+use Rattle.trace.specs.{mostSamples, bytesFor, samples, pack}
+use Rattle.trace.proofs.Packing.{length-samples, length-pack, samples-pack}
+use Rattle.semantics.specs.declared.Outcome.{Outcome}
+use Rattle.semantics.specs.declared.Verdict.{Verdict}
+use Rattle.semantics.specs.Language.{truth, Program}
+use Rattle.semantics.specs.Table.{cells, held, decisionOf, mainDecision, verdictNumber, verdictOf}
+use Rattle.semantics.proofs.Cells.{code-held, code-truth}
+use Rattle.semantics.proofs.Passes.{first-still, count-in-time}
+use Rattle.rule.specs.Form.{AreBytes, Accepted}
+use Rattle.rule.specs.Reading.{Parsed, got, checkFrom, programFrom, programCheck}
+use Rattle.rule.specs.Reading as reading
+use Rattle.rule.proofs.Tests.{neither}
+use Rattle.rule.proofs.Programs.{passed-accepted, read-encoded}
+use Rattle.evaluate.specs.Evaluate.{traceCheck, tableCheck, checkRead, evaluateCheck, programIn}
+use Rattle.evaluate.proofs.Preparing.{trace-passed}
+use Rattle.record.specs.declared.Checked.the-variants as checked
+use Rattle.record.specs.Form.{Contents, labelBytes, mostVerdict, samplesOf, layout, Stated}
+use Rattle.record.specs.Reading.{contentsIn, readCheck}
+use Rattle.record.specs.Recording.{workedOut, recorded, recordOf, writeCheck}
+use Rattle.record.specs.Checking.{programOf, checkCheck, checkedBy, checking}
+use Rattle.record.specs.Inverse.{ReadsBack}
+use Rattle.record.proofs.Fields.{then-passed, refuse-passed}
+use Rattle.record.proofs.Inverse.{contents-in, layout-passed, read-back}
+
+-- ---- The samples
+
+pub recorded-samples : (program trace : List ℕ) (n : ℕ) (label : List ℕ) (v : Verdict) → samplesOf (recorded program trace n label v) ≡ samples trace n
+unfolding recorded
+recorded-samples program trace n label v =
+    let bits = samples trace n in
+    let back : samples (pack bits ++ []) (length bits) ≡ bits = samples-pack bits [] in
+    rw (append-nil, length-samples trace n) at back
+
+-- ---- The verdict
+
+verdict-small : (cell : ℕ) → verdictNumber (mainDecision cell) ≤ mostVerdict
+unfolding mainDecision
+verdict-small cell = go (held [] truth cell) refl
+  where
+    go : (said : Option Outcome) → held [] truth cell ≡ said → verdictNumber (decisionOf said) ≤ mostVerdict
+    go none e = omega arith
+    go (some o) e = code-truth [] o (code-held [] truth cell o e .1) .1
+
+-- ---- The check
+
+-- what a check of an evaluation that passed has seen
+record Seen (program trace : List ℕ) (n lent : ℕ) : Type 0 where
+  P : Program
+  accepted : Accepted program P
+  few : n ≤ mostSamples
+  packed : length trace ≡ bytesFor n
+  table : tableCheck (cells (samples trace n) P) lent ≡ check.Passed
+  fits : suc (cells (samples trace n) P) < 256 ^ 4
+
+seen-program : (p : Parsed Program) (trace : List ℕ) (n lent : ℕ) → checkRead p trace n lent ≡ check.Passed → checkFrom p ≡ check.Passed
+seen-program (got P rest) trace n lent e = refl
+seen-program (reading.refused f) trace n lent e = e
+
+-- a table that is not refused has at most 16,777,216 cells
+table-fits : (needed lent : ℕ) → tableCheck needed lent ≡ check.Passed → suc needed < 256 ^ 4
+table-fits needed lent e =
+    let most : ℕ = 16777216 in
+    let within = neither (ltb lent needed) (ltb most needed) (refuse-passed (ltb lent needed || ltb most needed) TableShort e) in
+    omega (arith, ltb-false most needed (within .1))
+
+seen : (program trace : List ℕ) (n lent : ℕ) → AreBytes program → evaluateCheck program trace n lent ≡ check.Passed → Seen program trace n lent
+unfolding evaluateCheck programCheck
+seen program trace n lent are e =
+    let w = passed-accepted program are (seen-program (programFrom program) trace n lent e) in
+    let P = w .0 in
+    let both : (traceCheck n (length trace) then tableCheck (cells (samples trace n) P) lent) ≡ check.Passed = rw (read-encoded program P (w .1)) at e in
+    let c = then-passed _ _ both in
+    let t = trace-passed n (length trace) refl (c .0) in
+    record {
+      P = P;
+      accepted = w .1;
+      few = t .0;
+      packed = t .1;
+      table = c .1;
+      fits = table-fits (cells (samples trace n) P) lent (c .1);
+    }
+
+module _ (program trace : List ℕ) (n : ℕ) (label : List ℕ) (lent room : ℕ) (are : AreBytes program) (size : length label ≡ labelBytes)
+    (e : writeCheck program trace n label lent room ≡ check.Passed) where
+  evaluated : Seen program trace n lent
+  unfolding writeCheck
+  evaluated = seen program trace n lent are (then-passed _ _ e .0)
+
+  abbrev v : Verdict
+  v = workedOut program trace n
+
+  program-is : programIn (programFrom program) ≡ evaluated .P
+  program-is = ap programIn (read-encoded program (evaluated .P) (evaluated .accepted))
+
+  -- the pass count fits its field
+  counted : (1 ≤ v .passes) × (v .passes < 256 ^ 4)
+  unfolding verdictOf
+  counted =
+      let P = evaluated .P in
+      let t = samples trace n in
+      rw program-is (omega (arith, first-still P t (evaluated .accepted .kinds) .counted), omega (arith, count-in-time P t, evaluated .fits))
+
+  pub recorded-stated : Stated (recorded program trace n label v)
+  unfolding recorded verdictOf
+  recorded-stated =
+      record {
+        program = (evaluated .P, evaluated .accepted);
+        few = evaluated .few;
+        packed = length-pack (samples trace n) ∙ ap bytesFor (length-samples trace n);
+        label = size;
+        verdict = verdict-small _;
+        some = counted .0;
+        fits = counted .1;
+      }
+
+  -- the table's check, of what is recorded
+  table-passed : tableCheck (cells (samples trace n) (programIn (programFrom program))) lent ≡ check.Passed
+  table-passed = rw program-is (evaluated .table)
+
+-- ---- Reading and checking
+
+pub written-reads-back : (before program trace : List ℕ) (n : ℕ) (label : List ℕ) (lent room : ℕ) → AreBytes program → length label ≡ labelBytes
+    → writeCheck program trace n label lent room ≡ check.Passed → ReadsBack before (recorded program trace n label (workedOut program trace n))
+written-reads-back before program trace n label lent room are size e =
+    read-back before (recorded program trace n label (workedOut program trace n)) (recorded-stated program trace n label lent room are size e)
+
+-- bytes that hold c, and whose verdict and pass count are the ones worked out
+agreed : (bytes : List ℕ) (lent : ℕ) (c : Contents) (v : Verdict) → readCheck bytes ≡ check.Passed → contentsIn bytes ≡ c
+    → tableCheck (cells (samplesOf c) (programOf c)) lent ≡ check.Passed → verdictOf (programOf c) (samplesOf c) ≡ v
+    → c .verdict ≡ verdictNumber (v .decision) → c .passes ≡ v .passes → checking bytes lent ≡ checked.Agrees v
+unfolding checking checkCheck
+agreed bytes lent c v r e t w d p =
+    ap (λ (x : Contents). checkedBy (readCheck bytes then tableCheck (cells (samplesOf x) (programOf x)) lent) x (verdictOf (programOf x) (samplesOf x))) e
+    ∙ rw (r, t, w, eq-eqb (c .verdict) (verdictNumber (v .decision)) d, eq-eqb (c .passes) (v .passes) p)
+
+pub written-agrees : (before program trace : List ℕ) (n : ℕ) (label : List ℕ) (lent room : ℕ) → AreBytes program → length label ≡ labelBytes
+    → writeCheck program trace n label lent room ≡ check.Passed → checking (before ++ recordOf program trace n label) lent ≡ checked.Agrees (workedOut program trace n)
+unfolding recordOf recorded
+written-agrees before program trace n label lent room are size e =
+    let v = workedOut program trace n in
+    let c = recorded program trace n label v in
+    let s = recorded-stated program trace n label lent room are size e in
+    let same : samplesOf c ≡ samples trace n = recorded-samples program trace n label v in
+    agreed (before ++ layout c) lent c v (layout-passed before c s) (contents-in before c s)
+    (rw same (table-passed program trace n label lent room are size e)) (rw same) refl refl

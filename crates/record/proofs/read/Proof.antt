@@ -1,0 +1,55 @@
+-- `read` meets its contract: the trailer, then the program.
+use mathlib.Core.Path.{sym, _∙_}
+use Rattle.record.proofs.Answers.{located-refused, program-refused, program-passed}
+use borrow.Author.Needs.{needs}
+use Rattle.record.proofs.read.Statement.{statement}
+use Rattle.record.proofs.read.Tie as tie
+
+parts-requires : tie.Need-parts-requires
+parts-requires c κs = search needs
+
+enum-known-refusal : tie.Need-enum-known-refusal
+enum-known-refusal c = search needs
+
+enum-known-parts : tie.Need-enum-known-parts
+enum-known-parts c = search needs
+
+part-requires : tie.Need-part-requires
+part-requires c κs = search needs
+
+check-program-requires : tie.Need-check-program-requires
+check-program-requires c κs = search needs
+
+enum-known-check : tie.Need-enum-known-check
+enum-known-check c = search needs
+
+enum-told : tie.Need-enum-told
+enum-told c = search needs
+
+returns : tie.Need-returns
+returns c = located-refused _ (c .before .before .before .parts .ensures) (c .before .refusal .given .1)
+
+returns-2 : tie.Need-returns-2
+returns-2 c =
+    let told = c .before .before .before in
+    program-refused _ (told .before .before .before .before .before .before .parts .ensures) (told .before .before .before .before .parts2 .given .1) (rw (told .before .part .ensures) at (sym (told .check-program .ensures .0) ∙ c .before .check .given .1))
+
+returns-3 : tie.Need-returns-3
+returns-3 c =
+    let told = c .before .before in
+    program-passed _ (told .before .before .before .before .before .before .parts .ensures) (told .before .before .before .before .parts2 .given .1) (rw (told .before .part .ensures) at (sym (told .check-program .ensures .0) ∙ c .enum-told .given .1))
+
+pub read-spec : {M : Type 1} → statement M
+read-spec =
+    tie.close
+    (tie.spec
+    parts-requires
+    enum-known-refusal
+    enum-known-parts
+    part-requires
+    check-program-requires
+    enum-known-check
+    enum-told
+    returns
+    returns-2
+    returns-3)

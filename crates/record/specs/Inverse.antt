@@ -1,0 +1,30 @@
+-- What reading and writing owe each other (demand 2).
+use mathlib.Core.Path.{_≡_}
+use mathlib.Core.Logic.{_↔_}
+use mathlib.Core.List.{List, _++_}
+use Prim.Native.Nat.{ℕ}
+use lib.ListN.{take}
+use Rattle.record.specs.declared.Parts.{Parts}
+use Rattle.record.specs.declared.Reading.the-variants as read
+use Rattle.record.specs.Form.{Contents, layout, Stated}
+use Rattle.record.specs.Reading.{contentsAt, reading}
+
+-- bytes that end in a record of these contents are read as those, and the bytes before it are left
+pub record ReadsBack (before : List ℕ) (c : Contents) : Type 0 where
+  pub parts : Parts
+  pub accepted : reading (before ++ layout c) ≡ read.Record parts
+  pub contents : contentsAt (before ++ layout c) parts ≡ c
+  pub left : take (parts .program .start) (before ++ layout c) ≡ before
+
+-- bytes that are read as a record end in the stated layout of some contents
+pub record EndsIn (bytes : List ℕ) (p : Parts) : Type 0 where
+  pub stated : Stated (contentsAt bytes p)
+  pub whole : bytes ≡ take (p .program .start) bytes ++ layout (contentsAt bytes p)
+
+-- the bytes end in a record: in the stated layout of some contents that 2 to 17 leave
+abbrev pub EndInRecord : List ℕ → Type 0
+EndInRecord bytes = (before : List ℕ) × (c : Contents) × Stated c × (bytes ≡ before ++ layout c)
+
+-- 'the reader accepts exactly the stated layout'
+abbrev pub AcceptsExactly : List ℕ → Type 0
+AcceptsExactly bytes = ((p : Parts) × (reading bytes ≡ read.Record p)) ↔ EndInRecord bytes

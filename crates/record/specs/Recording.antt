@@ -1,0 +1,71 @@
+-- 'Recording', of document 01: its refusals (5 to 17, 20 to 22), its answer, what it leaves in the table and writes.
+use Prim.Native.Nat.{ℕ}
+use mathlib.Core.List.{List}
+use lib.Dec.{ltb}
+use lib.ListN.{length}
+use Rattle.refusal.specs.declared.Refusal.the-variants.{OutputShort}
+use Rattle.refusal.specs.declared.Check.{Check}
+use Rattle.refusal.specs.declared.Check.the-variants as check
+use Rattle.refusal.specs.{numberOf, refuseIf, _then_, changedIf}
+use Rattle.trace.specs.{samples, pack}
+use Rattle.semantics.specs.declared.Verdict.{Verdict}
+use Rattle.semantics.specs.Table.{verdictOf, verdictNumber}
+use Rattle.rule.specs.Reading.{programFrom}
+use Rattle.evaluate.specs.Evaluate.{evaluateCheck, programIn, tableEvaluated}
+use Rattle.encoding.specs.{begins}
+use Rattle.record.specs.declared.Written.{Written}
+use Rattle.record.specs.declared.Written.the-variants as written
+use Rattle.record.specs.Form.{Contents, layout}
+
+-- 'works the verdict out itself from program, trace and label, and is never handed one'
+abbrev pub workedOut : List ℕ → List ℕ → ℕ → Verdict
+workedOut program trace n = verdictOf (programIn (programFrom program)) (samples trace n)
+
+-- what is recorded with a verdict; bits above the last sample are written 0
+unfoldable pub recorded : List ℕ → List ℕ → ℕ → List ℕ → Verdict → Contents
+recorded program trace n label v =
+    record {
+      program = program;
+      trace = pack (samples trace n);
+      n = n;
+      label = label;
+      verdict = verdictNumber (v .decision);
+      passes = v .passes;
+    }
+
+-- the record's bytes
+unfoldable pub recordOf : List ℕ → List ℕ → ℕ → List ℕ → List ℕ
+recordOf program trace n label = layout (recorded program trace n label (workedOut program trace n))
+
+-- 5 to 17, 20, 21, then 22: 'the output is shorter than what is to be written'
+unfoldable pub writeCheck : List ℕ → List ℕ → ℕ → List ℕ → ℕ → ℕ → Check
+writeCheck program trace n label lent room =
+    evaluateCheck program trace n lent
+    then refuseIf (ltb room (length (recordOf program trace n label))) OutputShort
+
+abbrev pub writtenBy : Check → ℕ → Verdict → Written
+writtenBy check.Passed size v = written.Record size v
+writtenBy (check.Refused f) size v = written.Refused f
+
+-- the answer: how long the record is, and the verdict that went into it
+unfoldable pub writing : List ℕ → List ℕ → ℕ → List ℕ → ℕ → ℕ → Written
+writing program trace n label lent room =
+    writtenBy
+    (writeCheck program trace n label lent room)
+    (length (recordOf program trace n label))
+    (workedOut program trace n)
+
+-- the output: the record at its front; past it, it keeps its content
+unfoldable pub outputWritten : List ℕ → List ℕ → ℕ → List ℕ → ℕ → List ℕ → List ℕ
+outputWritten program trace n label lent out =
+    changedIf (writeCheck program trace n label lent (length out)) (begins (recordOf program trace n label) out) out
+
+-- the table: as evaluating leaves it
+unfoldable pub tableWritten : List ℕ → List ℕ → ℕ → List ℕ → List ℕ → ℕ → List ℕ
+tableWritten program trace n label table room =
+    changedIf (writeCheck program trace n label (length table) room) (tableEvaluated program trace n table) table
+
+-- the number of an answer, 0 for none
+abbrev pub writtenNumber : Written → ℕ
+writtenNumber (written.Record size v) = 0
+writtenNumber (written.Refused f) = numberOf f

@@ -1,0 +1,225 @@
+// Records: the program, the trace, the site label, the verdict and the pass count in one string of bytes
+// that is read from its last byte backwards. Every operation answers for all bytes and numbers; a refusal
+// changes nothing that is lent.
+mod fill;
+mod trailer;
+
+use evaluate::Evaluated;
+use refusal::Check;
+use refusal::Refusal;
+use semantics::Verdict;
+ghost use mathlib.Core.Path.{_≡_};
+ghost use Prim.Native.Nat.{ℕ};
+ghost use lib.ListN.{length};
+ghost use Rattle.trace.specs.{samples};
+ghost use Rattle.semantics.specs.declared.Verdict.{Verdict};
+ghost use Rattle.semantics.specs.Language.{Program};
+ghost use Rattle.semantics.specs.Demand.{Decides};
+ghost use Rattle.rule.specs.Form.{Accepted};
+ghost use Rattle.rule.specs.Reading.{programCheck};
+ghost use Rattle.record.specs.declared.Written.the-variants as Written;
+ghost use Rattle.record.specs.Form.{samplesOf};
+ghost use Rattle.record.specs.Reading.{partOf, contentsIn, reading};
+ghost use Rattle.record.specs.Recording.{writing, outputWritten, tableWritten};
+ghost use Rattle.record.specs.Checking.{checking, tableChecked, Holds, examining, agrees, compared};
+ghost use Rattle.record.specs.Steps.{bothRefused, refusedBy};
+
+// The format and the mark of a record.
+pub const FORMAT: u8 = 1;
+
+pub const MARK: u8 = 0x52;
+
+// The bytes of a site label, of the trailer, and of what stands between the trace and the trailer: the
+// label, the verdict byte and the pass count.
+pub const LABEL: usize = 8;
+
+pub const TRAILER: usize = 8;
+
+pub const AFTER_TRACE: usize = 13;
+
+// The highest number of a verdict.
+pub const MOST_VERDICT: u8 = 4;
+
+// A part of the caller's bytes.
+pub struct Span {
+    pub start: usize,
+    pub length: usize,
+}
+
+// The parts of a record: where they stand in the caller's bytes, and the numbers stored. The bytes before
+// the record are those before its program.
+pub struct Parts {
+    pub program: Span,
+    pub trace: Span,
+    pub n: u16,
+    pub label: Span,
+    pub verdict: u8,
+    pub passes: u32,
+}
+
+// What reading answers.
+pub enum Reading {
+    Record(Parts),
+    Refused(Refusal),
+}
+
+// What recording answers: the record's length and the verdict that went into it, or the refusal.
+pub enum Written {
+    Record(usize, Verdict),
+    Refused(Refusal),
+}
+
+// What checking answers, with the verdict that it worked out, or the refusal.
+pub enum Checked {
+    Agrees(Verdict),
+    Differs(Verdict),
+    Refused(Refusal),
+}
+
+// What reading and checking answer.
+pub struct Examined {
+    pub reading: Reading,
+    pub checked: Checked,
+}
+
+// Records a program on a packed trace of n samples, with a site label: works the verdict out over the lent
+// table and writes the record to the front of the output.
+pub fn write(
+    program: &[u8],
+    trace: &[u8],
+    n: usize,
+    label: [u8; 8],
+    table: &mut [u16],
+    out: &mut [u8],
+) -> Written
+    ensures answer { λ r. ⌜ r ≡ writing (now (program .entry)) (now (trace .entry)) n label (length (now (table .entry))) (length (now (out .entry))) ⌝ }
+    ensures output { λ _. ⌜ now (out .exit) ≡ outputWritten (now (program .entry)) (now (trace .entry)) n label (length (now (table .entry))) (now (out .entry)) ⌝ }
+    ensures cells { λ _. ⌜ now (table .exit) ≡ tableWritten (now (program .entry)) (now (trace .entry)) n label (now (table .entry)) (length (now (out .entry))) ⌝ }
+    ensures decides { λ r. ⌜ ((size : ℕ) (v : Verdict) → r ≡ Written.Record size v → (P : Program) × Accepted (now (program .entry)) P × Decides P (samples (now (trace .entry)) n) v (now (table .exit))) ⌝ }
+{
+    let size = program.len() + trace::bytes_for(n) + AFTER_TRACE + TRAILER;
+    if out.len() < size {
+        return match evaluate::check(program, trace, n, table.len()) {
+            Check::Refused(refusal) => Written::Refused(refusal),
+            Check::Passed => Written::Refused(Refusal::OutputShort),
+        };
+    }
+    match evaluate::evaluate(program, trace, n, table) {
+        Evaluated::Refused(refusal) => Written::Refused(refusal),
+        Evaluated::Verdict(verdict) => {
+            fill::fill(program, trace, n as u16, label, verdict, out);
+            Written::Record(size, verdict)
+        }
+    }
+}
+
+// Reads the record that the bytes end in.
+pub fn read(bytes: &[u8]) -> Reading
+    ensures { λ r. ⌜ r ≡ reading (now (bytes .entry)) ⌝ }
+{
+    match trailer::parts(bytes) {
+        Reading::Refused(refusal) => Reading::Refused(refusal),
+        Reading::Record(parts) => {
+            let program = parts.program;
+            let checked = rule::check_program(part(bytes, program));
+            let check = checked.check;
+            match check {
+                Check::Refused(refusal) => Reading::Refused(refusal),
+                Check::Passed => Reading::Record(parts),
+            }
+        }
+    }
+}
+
+// A part of the bytes, as far as they go.
+pub fn part(bytes: &[u8], span: Span) -> &[u8]
+    ensures { λ r. ⌜ now r ≡ partOf (now (bytes .entry)) span ⌝ }
+{
+    let len = bytes.len();
+    let start = span.start;
+    let length = span.length;
+    if len < start {
+        return &bytes[len..];
+    }
+    if len - start < length {
+        return &bytes[start..];
+    }
+    let end = start + length;
+    &bytes[start..end]
+}
+
+// Checks the record that the bytes end in: works verdict and passes out again over the lent table.
+pub fn check(bytes: &[u8], table: &mut [u16]) -> Checked
+    ensures answer { λ r. ⌜ r ≡ checking (now (bytes .entry)) (length (now (table .entry))) ⌝ }
+    ensures cells { λ _. ⌜ now (table .exit) ≡ tableChecked (now (bytes .entry)) (now (table .entry)) ⌝ }
+    ensures decides { λ r. ⌜ ((v : Verdict) → Holds r v → (P : Program) × Accepted (contentsIn (now (bytes .entry)) .program) P × Decides P (samplesOf (contentsIn (now (bytes .entry)))) v (now (table .exit))) ⌝ }
+{
+    let examined = examine(bytes, table);
+    examined.checked
+}
+
+// Reads and checks the record that the bytes end in, with its program judged once.
+pub fn examine(bytes: &[u8], table: &mut [u16]) -> Examined
+    ensures answer { λ r. ⌜ r ≡ examining (now (bytes .entry)) (length (now (table .entry))) ⌝ }
+    ensures cells { λ _. ⌜ now (table .exit) ≡ tableChecked (now (bytes .entry)) (now (table .entry)) ⌝ }
+    ensures decides { λ r. ⌜ ((v : Verdict) → Holds (r .checked) v → (P : Program) × Accepted (contentsIn (now (bytes .entry)) .program) P × Decides P (samplesOf (contentsIn (now (bytes .entry)))) v (now (table .exit))) ⌝ }
+{
+    match trailer::parts(bytes) {
+        Reading::Refused(refusal) => refused(refusal),
+        Reading::Record(parts) => {
+            let program = parts.program;
+            let trace = parts.trace;
+            match evaluate::evaluate(
+                part(bytes, program),
+                part(bytes, trace),
+                parts.n as usize,
+                table,
+            ) {
+                Evaluated::Verdict(verdict) => Examined {
+                    reading: Reading::Record(parts),
+                    checked: compare(parts, verdict),
+                },
+                Evaluated::Refused(refusal) => refused_by(part(bytes, program), parts, refusal),
+            }
+        }
+    }
+}
+
+// A record that is refused.
+fn refused(refusal: Refusal) -> Examined
+    ensures { λ r. ⌜ r ≡ bothRefused refusal ⌝ }
+{
+    Examined {
+        reading: Reading::Refused(refusal),
+        checked: Checked::Refused(refusal),
+    }
+}
+
+// A record that evaluating refuses: with an accepted program it is read all the same.
+fn refused_by(program: &[u8], parts: Parts, refusal: Refusal) -> Examined
+    ensures { λ r. ⌜ r ≡ refusedBy (programCheck (now (program .entry))) parts refusal ⌝ }
+{
+    let judged = rule::check_program(program);
+    let check = judged.check;
+    match check {
+        Check::Refused(_) => refused(refusal),
+        Check::Passed => Examined {
+            reading: Reading::Record(parts),
+            checked: Checked::Refused(refusal),
+        },
+    }
+}
+
+// Whether a record's verdict and pass count are those worked out.
+fn compare(parts: Parts, verdict: Verdict) -> Checked
+    ensures { λ r. ⌜ r ≡ compared (agrees (parts .verdict) (parts .passes) verdict) verdict ⌝ }
+{
+    let decision = verdict.decision;
+    if parts.verdict as u32 != semantics::verdict_number(decision) {
+        return Checked::Differs(verdict);
+    }
+    if parts.passes != verdict.passes {
+        return Checked::Differs(verdict);
+    }
+    Checked::Agrees(verdict)
+}
