@@ -1,20 +1,21 @@
 -- The check of an evaluation, one law for each way through it:
 --   program-refused, trace-refused     it refuses
---   trace-passed                       a trace that is not refused
+--   trace-passed, table-passed         a trace, and a number of cells, that are not refused
 --   table-left                         the check that is left is that of the table
 --   settled                            what it leaves if it passes
 use Prim.Native.Nat.{ℕ, _≤_}
 use mathlib.Core.Path.{_≡_, refl, sym, ap, _∙_}
-use mathlib.Core.Bool.{Bool, true, false, not, _||_}
+use mathlib.Core.Bool.{not}
 use mathlib.Core.List.{List}
 use lib.Dec.{eqb, ltb}
 use lib.ListN.{length}
-use borrow.Author.Tests.{ltb-false, eqb-true}
+use borrow.Author.Tests.{ltb-false, eqb-true, not-false}
 use Rattle.refusal.specs.declared.Refusal.{Refusal}
 use Rattle.refusal.specs.declared.Check.{Check}
 use Rattle.refusal.specs.declared.Check.the-variants.{Passed, Refused}
-use Rattle.refusal.specs.{refuseIf, _then_}
+use Rattle.refusal.specs.{_then_}
 use Rattle.refusal.proofs.Numbers.{refused}
+use Rattle.refusal.proofs.Checks.{either-passed}
 use Rattle.trace.specs.{mostSamples, bytesFor, samples}
 use Rattle.trace.proofs.Packing.{length-samples}
 use Rattle.semantics.specs.Language.{Program}
@@ -52,24 +53,14 @@ module _ (bytes trace : List ℕ) (n lent : ℕ) where
     pub table-left : {c : Check} {total : ℕ} → c ≡ traceCheck n (length trace) → c ≡ Passed → total ≡ cells (samples trace n) P → evaluateCheck bytes trace n lent ≡ tableCheck total lent
     table-left e q k = rw (read, ← e, q, k)
 
--- a check of two faults that passes has neither
-passed-if : (x y : Bool) (f : Refusal) → refuseIf (x || y) f ≡ Passed → (x ≡ false) × (y ≡ false)
-passed-if true y f h = absurd (refused h)
-passed-if false true f h = absurd (refused h)
-passed-if false false f h = (refl, refl)
-
-not-false : (b : Bool) → not b ≡ false → b ≡ true
-not-false true h = refl
-not-false false h = sym h
-
 pub trace-passed : (n size : ℕ) {c : Check} → c ≡ traceCheck n size → c ≡ Passed → (n ≤ mostSamples) × (size ≡ bytesFor n)
 trace-passed n size e q =
-    let h = passed-if (ltb mostSamples n) (not (eqb size (bytesFor n))) _ (sym e ∙ q) in
+    let h = either-passed (ltb mostSamples n) (not (eqb size (bytesFor n))) _ (sym e ∙ q) in
     (ltb-false mostSamples n (h .0), eqb-true size (bytesFor n) (not-false (eqb size (bytesFor n)) (h .1)))
 
-table-passed : (needed lent : ℕ) {c : Check} → c ≡ tableCheck needed lent → c ≡ Passed → (needed ≤ lent) × (needed ≤ mostCells)
+pub table-passed : (needed lent : ℕ) {c : Check} → c ≡ tableCheck needed lent → c ≡ Passed → (needed ≤ lent) × (needed ≤ mostCells)
 table-passed needed lent e q =
-    let h = passed-if (ltb lent needed) (ltb mostCells needed) _ (sym e ∙ q) in
+    let h = either-passed (ltb lent needed) (ltb mostCells needed) _ (sym e ∙ q) in
     (ltb-false lent needed (h .0), ltb-false mostCells needed (h .1))
 
 module _ {bytes : List ℕ} {P : Program} (a : Accepted bytes P) where

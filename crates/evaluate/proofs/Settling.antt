@@ -11,8 +11,8 @@ use mathlib.Core.Path.{_≡_, ap, _∙_}
 use mathlib.Core.List.{List, [], _∷_, _++_}
 use mathlib.Core.Option.{some}
 use lib.ListN.{length, getElem?, getD, drop, replicate, length-append, length-drop, length-replicate, List·getD-append}
-use Rattle.trace.specs.{bytesFor, samples}
-use Rattle.trace.proofs.Packing.{length-samples}
+use Rattle.trace.specs.{samples}
+use Rattle.trace.proofs.Packing.{length-samples, bytes-few}
 use Rattle.semantics.specs.declared.Decision.{Decision}
 use Rattle.semantics.specs.Language.{list, Function, Program, Trace}
 use Rattle.semantics.specs.Table.{cells, pass, passStores, finalTable, passCount, mainDecision, verdictOf}
@@ -35,8 +35,7 @@ module _ {bytes trace : List ℕ} {n : ℕ} {layout : Layout} {places : Cells} {
   program-is = ap programIn (read-encoded bytes (u .program) (u .accepted))
 
   pub trace-short : length trace ≤ 512
-  unfolding bytesFor
-  trace-short = omega (arith, u .packed, u .few)
+  trace-short = bytes-few n (u .few) (u .packed)
 
   functions-are : layout .functions ≡ length (u .program)
   unfolding layoutOf

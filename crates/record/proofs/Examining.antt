@@ -38,7 +38,8 @@ use Rattle.record.specs.Reading.{reading as readingOf}
 use Rattle.record.specs.Checking.{programOf, checkCheck, agrees, compared, checkedBy, checking, tableChecked, Holds, examining}
 use Rattle.record.specs.Steps.{located, bothRefused, refusedBy}
 use Rattle.record.proofs.Answers.{evaluation-refused, evaluation-passed, located-refusal, located-passed, parts-are}
-use Rattle.record.proofs.Fields.{then-passed, Fields, passed-fields}
+use Rattle.refusal.proofs.Checks.{then-passed}
+use Rattle.record.proofs.Fields.{Fields, passed-fields}
 use Rattle.record.proofs.Places.{length-part}
 
 -- ---- The checks

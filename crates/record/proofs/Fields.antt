@@ -1,31 +1,18 @@
 -- Refusals 1 to 4, of the trailer and of what stands before it:
---   then-passed, refuse-passed         what a check that passed has seen
 --   Fields                             what 1 to 4 leave
 --   passed-fields, fields-passed       the check passes exactly where that holds
-use mathlib.Core.Path.{_≡_, refl}
-use mathlib.Core.Bool.{Bool, true, false}
+use mathlib.Core.Path.{_≡_}
 use mathlib.Core.List.{List}
 use Prim.Native.Nat.{ℕ, _+_, _<_, _≤_}
 use native.Mathlib.Omega.{arith}
 use lib.ListN.{length}
 use borrow.Author.Tests.{ltb-false, leb-false, eqb-true, eqb-false, not-false, le-ltb, lt-leb, eq-eqb, ne-eqb}
-use Rattle.refusal.specs.declared.Refusal.{Refusal}
-use Rattle.refusal.specs.declared.Check.{Check}
-use Rattle.refusal.specs.declared.Check.the-variants.{Passed, Refused}
-use Rattle.refusal.specs.{refuseIf, _then_}
-use Rattle.refusal.proofs.Numbers.{refused}
+use Rattle.refusal.specs.declared.Check.the-variants.{Passed}
+use Rattle.refusal.proofs.Checks.{then-passed, refuse-passed, either-passed}
 use Rattle.rule.proofs.Tests.{neither}
 use Rattle.trace.specs.{mostSamples, bytesFor}
 use Rattle.record.specs.Form.{format, mark, trailerBytes, afterTrace, mostVerdict}
 use Rattle.record.specs.Reading.{trailerAt, programDistanceIn, traceDistanceIn, samplesIn, formatIn, markIn, verdictIn, passesIn, trailerCheck}
-
-pub then-passed : (a b : Check) → (a then b) ≡ Passed → (a ≡ Passed) × (b ≡ Passed)
-then-passed Passed b e = (refl, e)
-then-passed (Refused f) b e = absurd (refused e)
-
-pub refuse-passed : (b : Bool) (f : Refusal) → refuseIf b f ≡ Passed → b ≡ false
-refuse-passed true f e = absurd (refused e)
-refuse-passed false f e = refl
 
 -- what 1 to 4 leave
 pub record Fields (bytes : List ℕ) : Type 0 where
@@ -61,11 +48,11 @@ passed-fields bytes e =
     let c1 = then-passed _ _ e in
     let c2 = then-passed _ _ (c1 .1) in
     let c3 = then-passed _ _ (c2 .1) in
-    let f2 = neither _ _ (refuse-passed _ _ (c2 .0)) in
-    let f3 = neither _ _ (refuse-passed _ _ (c3 .0)) in
+    let f2 = either-passed _ _ _ (c2 .0) in
+    let f3 = either-passed _ _ _ (c3 .0) in
     let f3′ = neither _ _ (f3 .1) in
     let f3″ = neither _ _ (f3′ .1) in
-    let f4 = neither _ _ (refuse-passed _ _ (c3 .1)) in
+    let f4 = either-passed _ _ _ (c3 .1) in
     let none = eqb-false (passesIn bytes) 0 (f4 .1) in
     record {
       room = ltb-false _ _ (refuse-passed _ _ (c1 .0));

@@ -10,7 +10,7 @@ use native.Mathlib.Omega.{arith}
 use lib.ListN.{length, take, length-append}
 use lib.Seq.{take-at, drop-append-seam}
 use Rattle.refusal.specs.declared.Check.the-variants.{Passed}
-use Rattle.trace.specs.{bytesFor}
+use Rattle.trace.proofs.Packing.{bytes-few}
 use Rattle.rule.specs.Form.{encode}
 use Rattle.rule.specs.Reading.{programCheck}
 use Rattle.rule.proofs.Programs.{accepted-passed}
@@ -80,8 +80,7 @@ module _ (before : List ℕ) (c : Contents) (s : Stated c) where
   -- ---- What stands there
 
   trace-short : length (c .trace) ≤ 512
-  unfolding bytesFor
-  trace-short = omega (arith, s .packed, s .few)
+  trace-short = bytes-few (c .n) (s .few) (s .packed)
 
   program-some : 1 ≤ length (c .program)
   unfolding encode

@@ -1,5 +1,4 @@
 -- The trailer's checks, one law for each way through the code:
---   few-bytes                                the second distance fits its sum
 --   missing, wrong-mark, wrong-format        1 and 2
 --   faulty                                   3
 --   distances                                what 3 leaves
@@ -23,10 +22,6 @@ use Rattle.record.specs.declared.Reading.the-variants as read
 use Rattle.record.specs.Form.{format, mark, trailerBytes, afterTrace}
 use Rattle.record.specs.Reading.{partOf, numberAt, trailerAt, programDistanceIn, traceDistanceIn, samplesIn, formatIn, markIn, verdictIn, passesIn, fieldsFault, trailerCheck, partsIn}
 use Rattle.record.specs.Steps.{located, Distances, storedAt}
-
-pub few-bytes : (n : ℕ) {k : ℕ} → n ≤ mostSamples → k ≡ bytesFor n → k ≤ 512
-unfolding bytesFor
-few-bytes n h e = omega arith
 
 module _ (bytes : List ℕ) where
   pub missing : length bytes < trailerBytes → read.Refused TrailerMissing ≡ located bytes

@@ -26,7 +26,8 @@ use Rattle.record.specs.declared.Parts.{Parts}
 use Rattle.record.specs.declared.Reading.the-variants as read
 use Rattle.record.specs.Reading.{partOf, span, numberAt, trailerCheck, partsIn, contentsIn, readCheck, reading}
 use Rattle.record.proofs.Answers.{read-passed}
-use Rattle.record.proofs.Fields.{then-passed, Fields, passed-fields}
+use Rattle.refusal.proofs.Checks.{then-passed}
+use Rattle.record.proofs.Fields.{Fields, passed-fields}
 
 -- ---- Parts of bytes
 

@@ -4,15 +4,12 @@
 --   written-reads-back     so it is read back
 --   written-agrees         and checking it answers agrees
 use mathlib.Core.Path.{_≡_, refl, ap, _∙_}
-use mathlib.Core.Bool.{_||_}
 use mathlib.Core.List.{List, [], _++_, append-nil}
 use mathlib.Core.Option.{Option, none, some}
 use Prim.Native.Nat.{ℕ, suc, _^_, _<_, _≤_}
 use native.Mathlib.Omega.{arith}
-use lib.Dec.{ltb}
 use lib.ListN.{length}
-use borrow.Author.Tests.{ltb-false, eq-eqb}
-use Rattle.refusal.specs.declared.Refusal.the-variants.{TableShort}
+use borrow.Author.Tests.{eq-eqb}
 use Rattle.refusal.specs.declared.Check.the-variants as check
 use Rattle.refusal.specs.{_then_}
 use Rattle.trace.specs.{mostSamples, bytesFor, samples, pack}
@@ -26,17 +23,16 @@ use Rattle.semantics.proofs.Passes.{first-still, count-in-time}
 use Rattle.rule.specs.Form.{AreBytes, Accepted}
 use Rattle.rule.specs.Reading.{Parsed, got, checkFrom, programFrom, programCheck}
 use Rattle.rule.specs.Reading as reading
-use Rattle.rule.proofs.Tests.{neither}
 use Rattle.rule.proofs.Programs.{passed-accepted, read-encoded}
 use Rattle.evaluate.specs.Evaluate.{traceCheck, tableCheck, checkRead, evaluateCheck, programIn}
-use Rattle.evaluate.proofs.Preparing.{trace-passed}
+use Rattle.evaluate.proofs.Preparing.{trace-passed, table-passed}
 use Rattle.record.specs.declared.Checked.the-variants as checked
 use Rattle.record.specs.Form.{Contents, labelBytes, mostVerdict, samplesOf, layout, Stated}
 use Rattle.record.specs.Reading.{contentsIn, readCheck}
 use Rattle.record.specs.Recording.{workedOut, recorded, recordOf, writeCheck}
 use Rattle.record.specs.Checking.{programOf, checkCheck, checkedBy, checking}
 use Rattle.record.specs.Inverse.{ReadsBack}
-use Rattle.record.proofs.Fields.{then-passed, refuse-passed}
+use Rattle.refusal.proofs.Checks.{then-passed}
 use Rattle.record.proofs.Inverse.{contents-in, layout-passed, read-back}
 
 -- ---- The samples
@@ -73,13 +69,6 @@ seen-program : (p : Parsed Program) (trace : List ℕ) (n lent : ℕ) → checkR
 seen-program (got P rest) trace n lent e = refl
 seen-program (reading.refused f) trace n lent e = e
 
--- a table that is not refused has at most 16,777,216 cells
-table-fits : (needed lent : ℕ) → tableCheck needed lent ≡ check.Passed → suc needed < 256 ^ 4
-table-fits needed lent e =
-    let most : ℕ = 16777216 in
-    let within = neither (ltb lent needed) (ltb most needed) (refuse-passed (ltb lent needed || ltb most needed) TableShort e) in
-    omega (arith, ltb-false most needed (within .1))
-
 seen : (program trace : List ℕ) (n lent : ℕ) → AreBytes program → evaluateCheck program trace n lent ≡ check.Passed → Seen program trace n lent
 unfolding evaluateCheck programCheck
 seen program trace n lent are e =
@@ -94,7 +83,7 @@ seen program trace n lent are e =
       few = t .0;
       packed = t .1;
       table = c .1;
-      fits = table-fits (cells (samples trace n) P) lent (c .1);
+      fits = omega (arith, table-passed (cells (samples trace n) P) lent refl (c .1) .1);
     }
 
 module _ (program trace : List ℕ) (n : ℕ) (label : List ℕ) (lent room : ℕ) (are : AreBytes program) (size : length label ≡ labelBytes)
@@ -131,8 +120,8 @@ module _ (program trace : List ℕ) (n : ℕ) (label : List ℕ) (lent room : �
       }
 
   -- the table's check, of what is recorded
-  table-passed : tableCheck (cells (samples trace n) (programIn (programFrom program))) lent ≡ check.Passed
-  table-passed = rw program-is (evaluated .table)
+  table-fits : tableCheck (cells (samples trace n) (programIn (programFrom program))) lent ≡ check.Passed
+  table-fits = rw program-is (evaluated .table)
 
 -- ---- Reading and checking
 
@@ -159,4 +148,4 @@ written-agrees before program trace n label lent room are size e =
     let s = recorded-stated program trace n label lent room are size e in
     let same : samplesOf c ≡ samples trace n = recorded-samples program trace n label v in
     agreed (before ++ layout c) lent c v (layout-passed before c s) (contents-in before c s)
-    (rw same (table-passed program trace n label lent room are size e)) (rw same) refl refl
+    (rw same (table-fits program trace n label lent room are size e)) (rw same) refl refl

@@ -1,6 +1,7 @@
 -- Laws of packed samples:
 --   length-samples, samples-at      n packed samples are n, and the i-th is sample i
 --   sample-past                     a sample past the bytes is 0
+--   bytes-few                       a trace has at most 512 bytes
 --   length-pack                     the bytes of a trace
 --   samples-pack                    reading packed samples gives them back, whatever follows them
 --   write-past, write-stored        writing a sample past the bytes, and within them
@@ -17,7 +18,7 @@ use native.Mathlib.Numerals.{add-one}
 use native.Mathlib.Omega.{arith}
 use lib.ListN.{length, getD, take, drop, set, length-append, length-drop, length-take, List·getD-append, List·getD-eq-default}
 use lib.Seq.{length-take-le, take-suc, take-all, take-append-le, drop-append-le, drop-drop, drop-nil, getD-take, getD-drop, getD-at, set-out}
-use Rattle.trace.specs.{bitOf, sampleAt, samples, digit, binary, bytesFor, packed, pack, packedInto, withBit, withSample}
+use Rattle.trace.specs.{mostSamples, bitOf, sampleAt, samples, digit, binary, bytesFor, packed, pack, packedInto, withBit, withSample}
 use Rattle.trace.proofs.Bits.{bit-binary, with-bit}
 
 -- ---- Samples
@@ -43,6 +44,10 @@ unfolding sampleAt bitOf
 sample-past bytes i h = rw (List·getD-eq-default bytes 0 h, zero-div (2 ^ (i % 8)))
 
 -- ---- Packing
+
+pub bytes-few : (n : ℕ) {size : ℕ} → n ≤ mostSamples → size ≡ bytesFor n → size ≤ 512
+unfolding bytesFor
+bytes-few n h e = omega arith
 
 pub length-packed : (k : ℕ) (bits : List Bool) → length (packed k bits) ≡ k
 unfolding packed

@@ -11,7 +11,7 @@ use Rattle.encoding.specs.{lowFirst}
 use Rattle.encoding.proofs.Putting.{Left, left-room, left-put, left-end, left-front, front-put}
 use Rattle.record.specs.Form.{Contents, trailer, layout}
 use Rattle.record.specs.Recording.{recorded}
-use Rattle.record.proofs.Locating.{few-bytes}
+use Rattle.trace.proofs.Packing.{bytes-few}
 use Rattle.record.proofs.Filling.{packed-size, trailer-is}
 use Rattle.record.proofs.fill.fill.Statement.{statement}
 use Rattle.record.proofs.fill.fill.Tie as tie
@@ -64,7 +64,7 @@ at-trailer c =
     left-put (verdictNumber (s .args .verdict .decision) ∷ lowFirst 4 (s .args .verdict .passes)) (at-verdict (c .before .before .before .before .before .before)) (rw (c .before .before .verdict-bytes .ensures) at (c .put3 .ensures))
 
 few : (c : tie.After-bytes-for) → c .bytes-for .result ≤ 512
-few c = few-bytes (c .before .before .before .before .args .n) (c .before .before .before .before .pre .few) (c .bytes-for .ensures)
+few c = bytes-few (c .before .before .before .before .args .n) (c .before .before .before .before .pre .few) (c .bytes-for .ensures)
 
 bytes-for-requires : tie.Need-bytes-for-requires
 bytes-for-requires c κs = search needs

@@ -2,7 +2,7 @@
 use mathlib.Core.Path.{sym}
 use native.Mathlib.Omega.{arith}
 use borrow.Author.Tests.{lt-ltb, le-ltb, eq-eqb, ne-eqb, le-leb, lt-leb}
-use Rattle.record.proofs.Locating.{few-bytes}
+use Rattle.trace.proofs.Packing.{bytes-few}
 use borrow.Author.Needs.{needs}
 use Rattle.record.proofs.trailer.fields_fault.Statement.{statement}
 use Rattle.record.proofs.trailer.fields_fault.Tie as tie
@@ -14,7 +14,7 @@ bytes-for-requires : tie.Need-bytes-for-requires
 bytes-for-requires c κs = search needs
 
 add-if2 : tie.Need-add-if2
-add-if2 c = record { fits = omega (arith, few-bytes _ (c .before .if1 .left) (c .bytes-for .ensures)) }
+add-if2 c = record { fits = omega (arith, bytes-few _ (c .before .if1 .left) (c .bytes-for .ensures)) }
 
 returns-2 : tie.Need-returns-2
 returns-2 c = simp (le-ltb _ _ (c .before .before .if1 .left), sym (c .before .bytes-for .ensures), ne-eqb _ _ (c .if2 .taken))
