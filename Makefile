@@ -1,5 +1,5 @@
 # Short names for what is done often. `make help` lists them.
-.PHONY: help test check fmt try bench
+.PHONY: help test check fmt try model list bench
 
 help: ## list the targets
 	@grep -hE '^[a-z]+:.*## ' $(MAKEFILE_LIST) | sed 's/:.*## /\t/' | expand -t 8
@@ -13,8 +13,26 @@ check: ## prove what has changed since the last time, and run the programs
 fmt: ## lay out the sources and proofs
 	rt fmt
 
-try: ## run the cases with no proof: interpreter, -O0, -O3, assumptions checked
+try: ## run the programs with no proof: interpreter, -O0, -O3, assumptions checked
 	rt try cases
+	rt try archive_cases
+	rt try listing
+
+model: ## compare the sample archive, and what the programs must print, with the model's
+	python3 tests/model.py | cmp - crates/cases/stdout
+	python3 tests/model.py archive | cmp - crates/archive_cases/stdout
+	python3 tests/model.py sample | cmp - samples/plant.archive
+	python3 tests/model.py sample | cmp - crates/listing/stdin
+	python3 tests/model.py listing | cmp - crates/listing/stdout
+
+ARCHIVE = samples/plant.archive
+
+list: ## list the records of an archive, the sample's or those of ARCHIVE=file
+	@test -r "$(ARCHIVE)" && test ! -d "$(ARCHIVE)" || { echo "make list: no file '$(ARCHIVE)' to read; name one as ARCHIVE=file" >&2; exit 2; }
+	@mkdir -p target
+	@test -x target/bin/listing || echo "make list: proving and building the listing; see target/list.log" >&2
+	@rt check listing </dev/null >target/list.log 2>&1 || { cat target/list.log >&2; exit 1; }
+	@target/bin/listing <"$(ARCHIVE)"
 
 BENCH_CC = gcc clang
 

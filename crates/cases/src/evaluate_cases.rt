@@ -5,10 +5,10 @@ use crate::text;
 // Evaluates in the first so many cells of a table of 20 with one content, and prints the answer and the table.
 fn tried(name: &[u8], program: &[u8], trace: &[u8], n: usize, lent: usize, content: u16) {
     let mut table = [content; 20];
-    text::words(name);
-    text::words(b":");
+    printing::words(name);
+    printing::words(b":");
     evaluate_in(program, trace, n, &mut table, lent);
-    text::end();
+    printing::end();
 }
 
 // Evaluates in the first so many cells of a table, and prints the answer and the whole table.
@@ -17,27 +17,27 @@ fn evaluate_in(program: &[u8], trace: &[u8], n: usize, table: &mut [u16], lent: 
         return;
     }
     text::evaluated(evaluate::evaluate(program, trace, n, &mut table[0..lent]));
-    text::words(b", cells");
-    text::cells(table);
+    printing::words(b", cells");
+    printing::cells(table);
 }
 
 // Evaluates on the first so many bytes of a trace of ones in which byte 2 is another, in a table of 4,100
 // cells, and prints the answer and the table in short.
 fn long(name: &[u8], program: &[u8], n: usize, size: usize, byte: u8) {
     let mut table = [9u16; 4100];
-    text::words(name);
-    text::words(b":");
+    printing::words(name);
+    printing::words(b":");
     evaluate_on(program, size, byte, n, &mut table);
-    text::end();
+    printing::end();
 }
 
 // The same in a table of 60 cells.
 fn medium(name: &[u8], program: &[u8], n: usize, size: usize, byte: u8) {
     let mut table = [9u16; 60];
-    text::words(name);
-    text::words(b":");
+    printing::words(name);
+    printing::words(b":");
     evaluate_on(program, size, byte, n, &mut table);
-    text::end();
+    printing::end();
 }
 
 fn evaluate_on(program: &[u8], size: usize, byte: u8, n: usize, table: &mut [u16]) {
@@ -61,11 +61,11 @@ fn passed(
     to: usize,
 ) {
     let mut table = content;
-    text::words(b"pass, ");
-    text::words(name);
-    text::words(b":");
+    printing::words(b"pass, ");
+    printing::words(name);
+    printing::words(b":");
     pass_in(program, trace, n, &mut table, from, to);
-    text::end();
+    printing::end();
 }
 
 // Makes one pass over a part of a table.
@@ -77,8 +77,8 @@ fn pass_in(program: &[u8], trace: &[u8], n: usize, table: &mut [u16], from: usiz
         return;
     }
     text::passed(evaluate::pass(program, trace, n, &mut table[from..to]));
-    text::words(b", cells");
-    text::cells(table);
+    printing::words(b", cells");
+    printing::cells(table);
 }
 
 // The accepted rows of 'Programs tried'.

@@ -5,15 +5,15 @@ use ring::Ring;
 
 // Adds a sample to a new ring and takes its trace.
 fn length_case(slots: &mut [u8]) {
-    text::words(b"ring of");
-    text::number(slots.len());
-    text::words(b": add");
+    printing::words(b"ring of");
+    printing::number(slots.len());
+    printing::words(b": add");
     let ring = text::added(ring::add(slots, ring::new(), 1));
     let mut out = [0u8; 1];
-    text::words(b", take");
+    printing::words(b", take");
     text::taken(ring::take_trace(slots, ring, &mut out));
-    text::bytes(&out);
-    text::end();
+    printing::bytes(&out);
+    printing::end();
 }
 
 pub fn lengths() {
@@ -31,17 +31,17 @@ pub fn lengths() {
 // output after it.
 fn state_case(next: usize, count: usize) {
     let mut slots = [1u8, 0, 1];
-    text::words(b"state");
-    text::number(next);
-    text::number(count);
+    printing::words(b"state");
+    printing::number(next);
+    printing::number(count);
     let mut out = [255u8; 2];
-    text::words(b": take");
+    printing::words(b": take");
     text::taken(ring::take_trace(&slots, Ring { next, count }, &mut out));
-    text::bytes(&out);
-    text::words(b", add");
+    printing::bytes(&out);
+    printing::words(b", add");
     text::added(ring::add(&mut slots, Ring { next, count }, 0));
-    text::bytes(&slots);
-    text::end();
+    printing::bytes(&slots);
+    printing::end();
 }
 
 pub fn states() {
@@ -58,29 +58,29 @@ pub fn states() {
 // The first refusal of the list is told: 18 before 19, 19 before 22.
 pub fn order() {
     let mut none: [u8; 0] = [];
-    text::words(b"empty ring in a bad state: add");
+    printing::words(b"empty ring in a bad state: add");
     text::added(ring::add(&mut none, Ring { next: 7, count: 9 }, 1));
-    text::words(b", take");
+    printing::words(b", take");
     let mut out: [u8; 0] = [];
     text::taken(ring::take_trace(&none, Ring { next: 7, count: 9 }, &mut out));
-    text::end();
+    printing::end();
     let slots = [1u8; 9];
-    text::words(b"bad state and no room: take");
+    printing::words(b"bad state and no room: take");
     text::taken(ring::take_trace(&slots, Ring { next: 9, count: 9 }, &mut out));
-    text::end();
+    printing::end();
 }
 
 // So many samples held in a ring of nine, taken into an output.
 fn room_case(count: usize, out: &mut [u8]) {
     let slots = [1u8; 9];
-    text::words(b"take");
-    text::number(count);
-    text::words(b" into");
-    text::number(out.len());
-    text::words(b":");
+    printing::words(b"take");
+    printing::number(count);
+    printing::words(b" into");
+    printing::number(out.len());
+    printing::words(b":");
     text::taken(ring::take_trace(&slots, Ring { next: 0, count }, out));
-    text::bytes(out);
-    text::end();
+    printing::bytes(out);
+    printing::end();
 }
 
 pub fn rooms() {
@@ -99,17 +99,17 @@ pub fn rooms() {
 
 // Adds a sample, and shows the slots and the trace after it.
 fn turn(slots: &mut [u8], ring: Ring, sample: u8) -> Ring {
-    text::words(b"add");
-    text::number(sample as usize);
-    text::words(b":");
+    printing::words(b"add");
+    printing::number(sample as usize);
+    printing::words(b":");
     let after = text::added(ring::add(slots, ring, sample));
-    text::words(b", slots");
-    text::bytes(slots);
+    printing::words(b", slots");
+    printing::bytes(slots);
     let mut out = [0u8; 1];
-    text::words(b", take");
+    printing::words(b", take");
     text::taken(ring::take_trace(slots, after, &mut out));
-    text::bytes(&out);
-    text::end();
+    printing::bytes(&out);
+    printing::end();
     after
 }
 
@@ -127,13 +127,13 @@ pub fn wrap_around() {
 pub fn other_bytes() {
     let mut slots = [7u8, 0, 255];
     let mut out = [0u8; 1];
-    text::words(b"slots 7 0 255: take");
+    printing::words(b"slots 7 0 255: take");
     text::taken(ring::take_trace(&slots, Ring { next: 0, count: 3 }, &mut out));
-    text::bytes(&out);
-    text::words(b", add 9");
+    printing::bytes(&out);
+    printing::words(b", add 9");
     text::added(ring::add(&mut slots, Ring { next: 1, count: 3 }, 9));
-    text::bytes(&slots);
-    text::end();
+    printing::bytes(&slots);
+    printing::end();
 }
 
 // The state after the answer of adding.
@@ -160,12 +160,12 @@ fn filled(slots: &mut [u8], samples: usize) -> Ring {
 pub fn long() {
     let mut slots = [0u8; 4095];
     let ring = filled(&mut slots, 10000);
-    text::words(b"10000 into 4095:");
+    printing::words(b"10000 into 4095:");
     text::state(ring);
     let mut out = [0u8; 512];
-    text::words(b", take");
+    printing::words(b", take");
     text::taken(ring::take_trace(&slots, ring, &mut out));
-    text::words(b", bytes");
-    text::ends(&out);
-    text::end();
+    printing::words(b", bytes");
+    printing::ends(&out);
+    printing::end();
 }

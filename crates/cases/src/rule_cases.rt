@@ -1,13 +1,12 @@
 // The program check: the rows that are refused, each number of 5 to 17 at its edge, and which number is
 // told where several apply.
-use crate::text;
 
 // Checks a program by the function that C calls, and prints the number, 0 where it is accepted.
 fn program(name: &[u8], bytes: &[u8]) {
     let number = gateway::sik_check_program(bytes);
-    text::words(name);
-    text::number(number as usize);
-    text::end();
+    printing::words(name);
+    printing::number(number as usize);
+    printing::end();
 }
 
 pub fn rows() {

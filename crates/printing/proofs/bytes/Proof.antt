@@ -1,10 +1,9 @@
--- `cells` is safe and ends: the index stays within the content.
+-- `bytes` is safe and ends: the index stays within the content.
 use Prim.Native.Nat.{_-_, _≤_}
-use borrow.Author.Needs.{needs}
 use native.Mathlib.Omega.{arith}
 use lib.ListN.{length}
-use Rattle.cases.proofs.text.cells.Statement.{statement}
-use Rattle.cases.proofs.text.cells.Tie as tie
+use Rattle.printing.proofs.bytes.Statement.{statement}
+use Rattle.printing.proofs.bytes.Tie as tie
 
 abbrev Inv-loop : tie.InvT-loop
 Inv-loop content i₀ i = i ≤ length content
@@ -14,9 +13,6 @@ abbrev μ-loop : tie.MeasureT-loop
 
 loop-holds : tie.Need-loop-holds Inv-loop μ-loop
 loop-holds c = omega arith
-
-mul-number : tie.Need-mul-number Inv-loop μ-loop
-mul-number c = search needs
 
 shared-slice-read-number : tie.Need-shared-slice-read-number Inv-loop μ-loop
 shared-slice-read-number c = omega arith
@@ -39,14 +35,13 @@ loop-again c = omega arith
 returns : tie.Need-returns Inv-loop μ-loop
 returns c = tt
 
-pub cells-spec : {M : Type 1} → statement M
-cells-spec =
+pub bytes-spec : {M : Type 1} → statement M
+bytes-spec =
     tie.close
     (tie.spec
     Inv-loop
     μ-loop
     loop-holds
-    mul-number
     shared-slice-read-number
     cast-number
     number-requires

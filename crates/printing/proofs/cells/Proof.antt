@@ -1,9 +1,10 @@
--- `bytes` is safe and ends: the index stays within the content.
+-- `cells` is safe and ends: the index stays within the content.
 use Prim.Native.Nat.{_-_, _≤_}
+use borrow.Author.Needs.{needs}
 use native.Mathlib.Omega.{arith}
 use lib.ListN.{length}
-use Rattle.cases.proofs.text.bytes.Statement.{statement}
-use Rattle.cases.proofs.text.bytes.Tie as tie
+use Rattle.printing.proofs.cells.Statement.{statement}
+use Rattle.printing.proofs.cells.Tie as tie
 
 abbrev Inv-loop : tie.InvT-loop
 Inv-loop content i₀ i = i ≤ length content
@@ -13,6 +14,9 @@ abbrev μ-loop : tie.MeasureT-loop
 
 loop-holds : tie.Need-loop-holds Inv-loop μ-loop
 loop-holds c = omega arith
+
+mul-number : tie.Need-mul-number Inv-loop μ-loop
+mul-number c = search needs
 
 shared-slice-read-number : tie.Need-shared-slice-read-number Inv-loop μ-loop
 shared-slice-read-number c = omega arith
@@ -35,13 +39,14 @@ loop-again c = omega arith
 returns : tie.Need-returns Inv-loop μ-loop
 returns c = tt
 
-pub bytes-spec : {M : Type 1} → statement M
-bytes-spec =
+pub cells-spec : {M : Type 1} → statement M
+cells-spec =
     tie.close
     (tie.spec
     Inv-loop
     μ-loop
     loop-holds
+    mul-number
     shared-slice-read-number
     cast-number
     number-requires
