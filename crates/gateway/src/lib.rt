@@ -1,14 +1,76 @@
 // The functions that the daemon in C calls, on bytes and numbers alone. include/sikafondza.h declares
 // them for C and is their documentation.
 use evaluate::Evaluated;
+use record::Checked;
 use record::Reading;
+use record::Written;
+use ring::Added;
+use ring::Ring;
+use ring::Taken;
 ghost use mathlib.Core.Path.{_≡_};
+ghost use mathlib.Core.List.{[], _∷_};
 ghost use lib.ListN.{length};
 ghost use Rattle.refusal.specs.{checkNumber};
+ghost use Rattle.ring.specs.{ringCheck, slotsAfter, traceCheck, outputAfter};
 ghost use Rattle.rule.specs.Reading.{programCheck};
 ghost use Rattle.evaluate.specs.Evaluate.{evaluation, tableEvaluated, evaluatedNumber};
 ghost use Rattle.record.specs.Reading.{reading, readNumber};
-ghost use Rattle.gateway.specs.{answerLeft, partsLeft};
+ghost use Rattle.record.specs.Recording.{writing, outputWritten, tableWritten, writtenNumber};
+ghost use Rattle.record.specs.Checking.{checking, tableChecked, checkedNumber};
+ghost use Rattle.gateway.specs.{ringIn, stateLeft, samplesLeft, answerLeft, writtenLeft, partsLeft, agreementLeft};
+
+// Adds a sample to a ring: 0, with the new state in `state`; or the number of the refusal, with slots and
+// state as they were.
+#[no_mangle]
+pub extern "C" fn sik_ring_add(slots: &mut [u8], state: &mut [u64; 2], sample: u8) -> u32
+    ensures number { λ r. ⌜ r ≡ checkNumber (ringCheck (length (now (slots .entry))) (ringIn (now (state .entry)))) ⌝ }
+    ensures slots { λ _. ⌜ now (slots .exit) ≡ slotsAfter (now (slots .entry)) (ringIn (now (state .entry))) sample ⌝ }
+    ensures state { λ _. ⌜ now (state .exit) ≡ stateLeft (length (now (slots .entry))) (now (state .entry)) ⌝ }
+{
+    let ring = ring_of(state[0], state[1]);
+    let added = ring::add(slots, ring, sample);
+    match added {
+        Added::Stored(after) => {
+            *state = [after.next as u64, after.count as u64];
+            0
+        }
+        Added::Refused(refusal, _) => refusal::number(refusal),
+    }
+}
+
+// Packs what a ring holds into the output: 0, with the number of samples in `samples`; or the number of the
+// refusal, with output and samples as they were.
+#[no_mangle]
+pub extern "C" fn sik_ring_trace(
+    slots: &[u8],
+    state: &[u64; 2],
+    out: &mut [u8],
+    samples: &mut [u64; 1],
+) -> u32
+    ensures number { λ r. ⌜ r ≡ checkNumber (traceCheck (length (now (slots .entry))) (ringIn (now (state .entry))) (length (now (out .entry)))) ⌝ }
+    ensures output { λ _. ⌜ now (out .exit) ≡ outputAfter (now (slots .entry)) (ringIn (now (state .entry))) (now (out .entry)) ⌝ }
+    ensures samples { λ _. ⌜ now (samples .exit) ≡ samplesLeft (length (now (slots .entry))) (now (state .entry)) (length (now (out .entry))) (now (samples .entry)) ⌝ }
+{
+    let ring = ring_of(state[0], state[1]);
+    let taken = ring::take_trace(slots, ring, out);
+    match taken {
+        Taken::Samples(count) => {
+            *samples = [count as u64];
+            0
+        }
+        Taken::Refused(refusal) => refusal::number(refusal),
+    }
+}
+
+// A ring's state from its two numbers.
+fn ring_of(next: u64, count: u64) -> Ring
+    ensures { λ r. ⌜ r ≡ ringIn (next ∷ count ∷ []) ⌝ }
+{
+    Ring {
+        next: next as usize,
+        count: count as usize,
+    }
+}
 
 // The number of the refusal that the program meets, 5 to 17, or 0.
 #[no_mangle]
@@ -89,5 +151,73 @@ fn parts_with(reading: Reading, parts: &mut [u64; 9]) -> u32
             0
         }
         Reading::Refused(refusal) => refusal::number(refusal),
+    }
+}
+
+// Records a program on a packed trace of n samples: 0, with the record's length, the verdict's number and the
+// pass count in `answer`, the record in the output and the cells in the table; or the number of the refusal,
+// with all three as they were.
+#[no_mangle]
+pub extern "C" fn sik_write_record(
+    program: &[u8],
+    trace: &[u8],
+    n: u64,
+    label: &[u8; 8],
+    table: &mut [u16],
+    out: &mut [u8],
+    answer: &mut [u64; 3],
+) -> u32
+    ensures number { λ r. ⌜ r ≡ writtenNumber (writing (now (program .entry)) (now (trace .entry)) n (now (label .entry)) (length (now (table .entry))) (length (now (out .entry)))) ⌝ }
+    ensures output { λ _. ⌜ now (out .exit) ≡ outputWritten (now (program .entry)) (now (trace .entry)) n (now (label .entry)) (length (now (table .entry))) (now (out .entry)) ⌝ }
+    ensures cells { λ _. ⌜ now (table .exit) ≡ tableWritten (now (program .entry)) (now (trace .entry)) n (now (label .entry)) (now (table .entry)) (length (now (out .entry))) ⌝ }
+    ensures answer { λ _. ⌜ now (answer .exit) ≡ writtenLeft (writing (now (program .entry)) (now (trace .entry)) n (now (label .entry)) (length (now (table .entry))) (length (now (out .entry)))) (now (answer .entry)) ⌝ }
+{
+    let written = record::write(program, trace, n as usize, *label, table, out);
+    written_with(written, answer)
+}
+
+// Writes a record's length, verdict and pass count, and answers 0; or answers the number of the refusal.
+fn written_with(written: Written, answer: &mut [u64; 3]) -> u32
+    ensures number { λ r. ⌜ r ≡ writtenNumber written ⌝ }
+    ensures answer { λ _. ⌜ now (answer .exit) ≡ writtenLeft written (now (answer .entry)) ⌝ }
+{
+    match written {
+        Written::Record(size, verdict) => {
+            let decision = verdict.decision;
+            let number = semantics::verdict_number(decision);
+            *answer = [size as u64, number as u64, verdict.passes as u64];
+            0
+        }
+        Written::Refused(refusal) => refusal::number(refusal),
+    }
+}
+
+// Checks the record that the bytes end in: 0, with 1 in `answer` if it agrees or 0 if it differs, and the cells
+// in the table; or the number of the refusal, with both as they were.
+#[no_mangle]
+pub extern "C" fn sik_check_record(bytes: &[u8], table: &mut [u16], answer: &mut [u64; 1]) -> u32
+    ensures number { λ r. ⌜ r ≡ checkedNumber (checking (now (bytes .entry)) (length (now (table .entry)))) ⌝ }
+    ensures cells { λ _. ⌜ now (table .exit) ≡ tableChecked (now (bytes .entry)) (now (table .entry)) ⌝ }
+    ensures answer { λ _. ⌜ now (answer .exit) ≡ agreementLeft (checking (now (bytes .entry)) (length (now (table .entry)))) (now (answer .entry)) ⌝ }
+{
+    let checked = record::check(bytes, table);
+    agreement_with(checked, answer)
+}
+
+// Writes whether a record agrees, and answers 0; or answers the number of the refusal.
+fn agreement_with(checked: Checked, answer: &mut [u64; 1]) -> u32
+    ensures number { λ r. ⌜ r ≡ checkedNumber checked ⌝ }
+    ensures answer { λ _. ⌜ now (answer .exit) ≡ agreementLeft checked (now (answer .entry)) ⌝ }
+{
+    match checked {
+        Checked::Agrees(_) => {
+            *answer = [1];
+            0
+        }
+        Checked::Differs(_) => {
+            *answer = [0];
+            0
+        }
+        Checked::Refused(refusal) => refusal::number(refusal),
     }
 }
