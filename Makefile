@@ -1,5 +1,5 @@
 # Short names for what is done often. `make help` lists them.
-.PHONY: help test check fmt try model list bench
+.PHONY: help test check fmt try model list lib install example compare bench
 
 help: ## list the targets
 	@grep -hE '^[a-z]+:.*## ' $(MAKEFILE_LIST) | sed 's/:.*## /\t/' | expand -t 8
@@ -34,12 +34,36 @@ list: ## list the records of an archive, the sample's or those of ARCHIVE=file
 	@rt check listing </dev/null >target/list.log 2>&1 || { cat target/list.log >&2; exit 1; }
 	@target/bin/listing <"$(ARCHIVE)"
 
-BENCH_CC = gcc clang
+PREFIX = /usr/local
 
-bench: ## time the library beside the same passes in plain C, in one run for each C compiler there is
+lib: ## build the static library and put it with its header under build/
+	rt staticlib gateway
+	mkdir -p build/lib build/include
+	cp target/staticlib/libgateway.a build/lib/
+	cp include/sikafondza.h build/include/
+
+install: lib ## install library, header and pkg-config file under PREFIX (/usr/local); DESTDIR goes in front
+	install -d $(DESTDIR)$(PREFIX)/include $(DESTDIR)$(PREFIX)/lib/pkgconfig
+	install -m 644 build/include/sikafondza.h $(DESTDIR)$(PREFIX)/include/
+	install -m 644 build/lib/libgateway.a $(DESTDIR)$(PREFIX)/lib/
+	sed 's|@PREFIX@|$(abspath $(PREFIX))|' sikafondza.pc.in > build/sikafondza.pc
+	install -m 644 build/sikafondza.pc $(DESTDIR)$(PREFIX)/lib/pkgconfig/
+
+example: lib ## build examples/daemon.c against build/ and run it
+	$(CC) -std=c99 -pedantic -Wall -Wextra -O2 -Ibuild/include examples/daemon.c -Lbuild/lib -lgateway -o build/daemon
+	build/daemon
+
+compare: ## compare the library with the second implementation in Rust, ten times as long as the gate does
+	tests/run long
+
+BENCH_CC = gcc clang
+# Turns of each workload; empty for the program's own number.
+BENCH_TURNS =
+
+bench: ## time the library beside plain C: one table for each C compiler there is
 	rt staticlib gateway
 	@for c in $(BENCH_CC); do \
 	  command -v $$c >/dev/null || continue; \
-	  $$c -std=c99 -Wall -Wextra -O3 -Iinclude bench/bench.c target/staticlib/libgateway.a -o target/bench || exit 1; \
-	  echo "plain C by $$c -O3"; target/bench || exit 1; \
+	  $$c -std=c99 -Wall -Wextra -O3 -Iinclude bench/*.c target/staticlib/libgateway.a -o target/bench || exit 1; \
+	  echo "plain C by $$c -O3"; target/bench $(BENCH_TURNS) || exit 1; \
 	done

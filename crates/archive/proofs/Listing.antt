@@ -27,7 +27,7 @@ use Rattle.record.specs.declared.Examined.{Examined}
 use Rattle.record.specs.Checking.{checking, examining}
 use Rattle.record.proofs.Places.{parts-within}
 use Rattle.archive.specs.Walk.{walk}
-use Rattle.archive.specs.Listing.{mostArchive, listingCells, newline, tooLongWords, recordLine, stopLine, endLine, linesOf, listing}
+use Rattle.archive.specs.Listing.{mostArchive, listingCells, listingBytes, newline, tooLongWords, recordLine, stopLine, endLine, linesOf, listing}
 use Rattle.archive.proofs.Walking.{before-short, walk-end, walk-record, walk-refused}
 use Rattle.archive.proofs.Lengths.{record-line-short, stop-line-short, end-line-short}
 
@@ -77,7 +77,7 @@ short-in (suc k) listed (b ∷ bs) h few =
     by-reading listed (b ∷ bs) (reading (b ∷ bs)) (omega arith) few refl
     (λ p e. let short = before-short (b ∷ bs) p e in short-in k (suc listed) (take (p .program .start) (b ∷ bs)) (omega arith) (omega arith))
 
-pub lines-short : (archive out : List ℕ) → length archive ≤ mostArchive → length out ≡ 65600 → length (linesOf 0 (walk archive)) ≤ length out
+pub lines-short : (archive out : List ℕ) → length archive ≤ mostArchive → length out ≡ listingBytes → length (linesOf 0 (walk archive)) ≤ length out
 lines-short archive out few size = omega (arith, short-in (length archive) 0 archive (omega arith) (omega arith))
 
 -- ---- The loop
@@ -89,7 +89,7 @@ pub record Turn (archive out₀ out table : List ℕ) (left listed at : ℕ) : T
   pub cells : length table ≡ listingCells
   pub text : Left out₀ 0 (linesOf 0 (walk archive)) out at (linesOf listed (walk (take left archive)))
 
-pub turn-start : (archive out table : List ℕ) → length archive ≤ mostArchive → length out ≡ 65600 → length table ≡ listingCells
+pub turn-start : (archive out table : List ℕ) → length archive ≤ mostArchive → length out ≡ listingBytes → length table ≡ listingCells
     → Turn archive out out table (length archive) 0 0
 turn-start archive out table few size cells =
     record {

@@ -94,3 +94,7 @@ linesOf listed (found bytes p w) =
 -- 'a longer archive prints only too long'
 unfoldable pub listing : List ℕ → List ℕ
 listing archive = cond (ltb mostArchive (length archive)) (tooLongWords ++ newline) (linesOf 0 (walk archive))
+
+-- room for every listing: a record of at least 22 bytes has a line of at most 44, and the last line has at most 64
+abbrev pub listingBytes : ℕ
+listingBytes = 65600

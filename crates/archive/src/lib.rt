@@ -10,8 +10,8 @@ ghost use Rattle.encoding.specs.{begins};
 ghost use Rattle.archive.specs.Walk.{stepIn};
 ghost use Rattle.archive.specs.Listing.{listing};
 
-// The longest archive that is listed, the cells that its records are checked in, and room for the text: a
-// record of at least 22 bytes has a line of at most 44.
+// The longest archive that is listed, the cells that its records are checked in, and room for every listing: a
+// record of at least 22 bytes has a line of at most 44, and the last line has at most 64.
 pub const MOST_ARCHIVE: usize = 32768;
 
 pub const CELLS: usize = 16384;
@@ -50,13 +50,13 @@ fn step_of(bytes: &[u8]) -> Step
 }
 
 // Writes the listing of an archive to the front of the output, and answers how long it is.
-pub fn list(archive: &[u8], out: &mut [u8; 65600]) -> usize
+pub fn list(archive: &[u8], out: &mut [u8; TEXT]) -> usize
     ensures size { λ r. ⌜ r ≡ length (listing (now (archive .entry))) ⌝ }
     ensures output { λ _. ⌜ now (out .exit) ≡ begins (listing (now (archive .entry))) (now (out .entry)) ⌝ }
 {
     if MOST_ARCHIVE < archive.len() {
         return encoding::put(out, 0, b"too long\n");
     }
-    let mut table = [0u16; 16384];
+    let mut table = [0u16; CELLS];
     lines::lines(archive, &mut table, out)
 }

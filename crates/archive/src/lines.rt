@@ -8,13 +8,13 @@ ghost use Prim.Native.Nat.{_+_, _≤_};
 ghost use lib.ListN.{length};
 ghost use Rattle.encoding.specs.{decimal, begins, put};
 ghost use Rattle.archive.specs.Walk.{walk};
-ghost use Rattle.archive.specs.Listing.{mostArchive, listingCells, verdictWord, checkWord, recordLine, stopLine, endLine, linesOf};
+ghost use Rattle.archive.specs.Listing.{mostArchive, listingCells, listingBytes, verdictWord, checkWord, recordLine, stopLine, endLine, linesOf};
 ghost use Rattle.archive.specs.Listing.{field as Listing·field};
 
 // Lists the records of an archive from the last, checked in the table, and answers the place after the
 // last line.
 pub fn lines(archive: &[u8], table: &mut [u16], out: &mut [u8]) -> usize
-    requires { ⌜ (length (now archive) ≤ mostArchive) × (length (now table) ≡ listingCells) × (length (now out) ≡ 65600) ⌝ }
+    requires { ⌜ (length (now archive) ≤ mostArchive) × (length (now table) ≡ listingCells) × (length (now out) ≡ listingBytes) ⌝ }
     ensures place { λ r. ⌜ r ≡ length (linesOf 0 (walk (now (archive .entry)))) ⌝ }
     ensures output { λ _. ⌜ now (out .exit) ≡ begins (linesOf 0 (walk (now (archive .entry)))) (now (out .entry)) ⌝ }
 {

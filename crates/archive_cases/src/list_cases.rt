@@ -6,7 +6,7 @@ use crate::records::HEAD;
 
 // Lists an archive, and prints the text.
 fn listed(name: &[u8], bytes: &[u8]) {
-    let mut out = [0u8; 65600];
+    let mut out = [0u8; archive::TEXT];
     printing::words(name);
     printing::words(b":\n");
     let size = archive::list(bytes, &mut out);

@@ -4,8 +4,8 @@ use libc::STDIN_FILENO;
 use libc::STDOUT_FILENO;
 
 fn main() {
-    let mut archive = [0u8; 32769];
-    let mut out = [0u8; 65600];
+    let mut archive = [0u8; archive::MOST_ARCHIVE + 1];
+    let mut out = [0u8; archive::TEXT];
     let n = io::read_full(STDIN_FILENO, &mut archive);
     let mut more = [0u8; 1];
     if libc::read(STDIN_FILENO, &mut more) < 0 {

@@ -6,40 +6,40 @@
 --   refused-promised               all that is promised, with demand 3 of the verdict worked out
 use mathlib.Core.Path.{_≡_, refl, sym, ap, _∙_}
 use mathlib.Core.Bool.{Bool, true, false}
-use mathlib.Core.List.{List, _++_}
+use mathlib.Core.List.{List}
 use Prim.Native.Nat.{ℕ}
 use native.Mathlib.Omega.{arith}
-use lib.ListN.{length, drop}
+use lib.ListN.{length}
 use borrow.Author.Tests.{le-ltb, eq-eqb}
 use Rattle.refusal.specs.declared.Refusal.{Refusal}
 use Rattle.refusal.specs.declared.Check.{Check}
 use Rattle.refusal.specs.declared.Check.the-variants.{Passed, Refused}
-use Rattle.refusal.specs.{_then_, changedIf}
+use Rattle.refusal.specs.{_then_}
 use Rattle.trace.specs.{mostSamples, bytesFor, samples}
 use Rattle.semantics.specs.declared.Verdict.{Verdict}
 use Rattle.semantics.specs.Language.{Program}
-use Rattle.semantics.specs.Table.{cells, finalTable, verdictOf}
+use Rattle.semantics.specs.Table.{cells, verdictOf}
 use Rattle.semantics.specs.Demand.{Decides}
 use Rattle.rule.specs.Form.{Accepted}
 use Rattle.rule.specs.Reading.{Parsed, got, programFrom, programCheck, checkFrom}
 use Rattle.rule.specs.Reading as reading
 use Rattle.evaluate.specs.declared.Evaluated.{Evaluated}
 use Rattle.evaluate.specs.declared.Evaluated.the-variants as evaluated
-use Rattle.evaluate.specs.Evaluate.{traceCheck, tableCheck, checkRead, evaluateCheck, programIn, answerBy, evaluation, tableEvaluated}
+use Rattle.evaluate.specs.Evaluate.{traceCheck, tableCheck, checkRead, evaluateCheck, programIn, evaluation, tableEvaluated}
 use Rattle.record.specs.declared.Parts.{Parts}
 use Rattle.record.specs.declared.Reading.{Reading}
 use Rattle.record.specs.declared.Reading.the-variants as read
 use Rattle.record.specs.declared.Checked.{Checked}
 use Rattle.record.specs.declared.Checked.the-variants as checked
 use Rattle.record.specs.declared.Examined.{Examined}
-use Rattle.record.specs.Form.{Contents, samplesOf, afterTrace}
+use Rattle.record.specs.Form.{Contents, samplesOf}
 use Rattle.record.specs.Reading.{partOf, contentsIn, trailerCheck, partsIn, readCheck, readBy}
 use Rattle.record.specs.Reading.{reading as readingOf}
 use Rattle.record.specs.Checking.{programOf, checkCheck, agrees, compared, checkedBy, checking, tableChecked, Holds, examining}
 use Rattle.record.specs.Steps.{located, bothRefused, refusedBy}
 use Rattle.record.proofs.Answers.{evaluation-refused, evaluation-passed, located-refusal, located-passed, parts-are}
 use Rattle.refusal.proofs.Checks.{then-passed}
-use Rattle.record.proofs.Fields.{Fields, passed-fields}
+use Rattle.record.proofs.Fields.{passed-fields}
 use Rattle.record.proofs.Places.{length-part}
 
 -- ---- The checks

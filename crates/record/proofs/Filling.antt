@@ -3,7 +3,7 @@
 --   pack-put                                packed samples put into a part of an output
 --   trailer-is                              the trailer of what is recorded
 --   size-is                                 how long the record is
-use mathlib.Core.Path.{_≡_, refl, sym, ap, _∙_}
+use mathlib.Core.Path.{_≡_, sym, ap, _∙_}
 use mathlib.Core.Bool.{Bool}
 use mathlib.Core.List.{List, [], _∷_, _++_}
 use Prim.Native.Nat.{ℕ, _+_, _-_, _<_, _≤_}

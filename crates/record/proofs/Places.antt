@@ -8,7 +8,7 @@
 --   number-there, next-there       the part, byte or number that stands at a place, and what stands after it
 --   record-read                    bytes that are read have passed the checks, and the parts are theirs
 --   Within, parts-within           the parts lie within the bytes
-use mathlib.Core.Path.{_≡_, refl, sym, ap, _∙_}
+use mathlib.Core.Path.{_≡_, sym, ap, _∙_}
 use mathlib.Core.List.{List, [], _∷_, _++_}
 use Prim.Native.Nat.{ℕ, zero, suc, _+_, _^_, _<_, _≤_}
 use native.Mathlib.Omega.{arith}

@@ -5,7 +5,7 @@
 --   no-record                       a refusal
 --   passed-written, verdict-in      a record
 --   fillable                        what a passed check leaves for the record
-use mathlib.Core.Path.{_≡_, sym, ap, _∙_}
+use mathlib.Core.Path.{_≡_, ap, _∙_}
 use mathlib.Core.List.{List}
 use Prim.Native.Nat.{ℕ, _<_, _≤_}
 use native.Mathlib.Omega.{arith}

@@ -4,13 +4,13 @@ use mathlib.Core.List.{_++_}
 use native.Mathlib.Omega.{arith}
 use lib.ListN.{length}
 use Rattle.encoding.proofs.Putting.{room-place, front-put}
-use Rattle.archive.specs.Listing.{newline, tooLongWords}
+use Rattle.archive.specs.Listing.{newline, tooLongWords, listingBytes}
 use Rattle.archive.proofs.Listing.{too-long, listed-whole}
 use borrow.Author.Needs.{needs}
 use Rattle.archive.proofs.list.Statement.{statement}
 use Rattle.archive.proofs.list.Tie as tie
 
-out-size : (c : tie.After-put) → length (c .before .before .before .before .before .args .out .now) ≡ 65600
+out-size : (c : tie.After-put) → length (c .before .before .before .before .before .args .out .now) ≡ listingBytes
 out-size c = search needs
 
 slice-aggregate-put : tie.Need-slice-aggregate-put

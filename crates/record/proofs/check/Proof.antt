@@ -1,6 +1,5 @@
 -- `check` meets its contract: it is the second part of what `examine` answers.
 use Rattle.record.specs.Checking.{examining}
-use mathlib.Core.Path.{ap}
 use borrow.Author.Needs.{needs}
 use Rattle.record.proofs.check.Statement.{statement}
 use Rattle.record.proofs.check.Tie as tie

@@ -1,5 +1,4 @@
 -- `examine` meets its contract: the trailer, then what evaluating the record's program on its trace answers.
-use mathlib.Core.Path.{sym, _∙_}
 use Rattle.record.proofs.Examining.{trailer-refused, verdict-promised, refused-promised}
 use borrow.Author.Needs.{needs}
 use Rattle.record.proofs.examine.Statement.{statement}

@@ -1,11 +1,10 @@
 -- `fill` meets its contract: the parts are put one after the other, and there is room for each that is left.
-use Prim.Native.Nat.{ℕ, _+_, _≤_}
-use mathlib.Core.Path.{_≡_, sym, _∙_}
+use Prim.Native.Nat.{ℕ, _≤_}
+use mathlib.Core.Path.{_∙_}
 use mathlib.Core.List.{List, _∷_, _++_}
 use native.Mathlib.Omega.{arith}
-use lib.ListN.{length}
 use borrow.Author.Needs.{needs}
-use Rattle.trace.specs.{samples, pack, bytesFor}
+use Rattle.trace.specs.{samples, pack}
 use Rattle.semantics.specs.Table.{verdictNumber}
 use Rattle.encoding.specs.{lowFirst}
 use Rattle.encoding.proofs.Putting.{Left, left-room, left-put, left-end, left-front, front-put}

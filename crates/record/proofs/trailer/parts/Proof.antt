@@ -1,8 +1,7 @@
 -- `parts` meets its contract: 1 and 2, then 3 of the trailer's fields, then what stands before it.
-use mathlib.Core.Path.{_≡_, sym, _∙_}
-use lib.ListN.{length}
+use mathlib.Core.Path.{sym, _∙_}
 use Rattle.record.proofs.Locating.{missing, wrong-mark, wrong-format, faulty, distances, sound}
-use Rattle.record.specs.Reading.{programDistanceIn, traceDistanceIn, samplesIn, markIn, formatIn}
+use Rattle.record.specs.Reading.{markIn, formatIn}
 use borrow.Author.Needs.{needs}
 use Rattle.record.proofs.trailer.parts.Statement.{statement}
 use Rattle.record.proofs.trailer.parts.Tie as tie

@@ -1,0 +1,21 @@
+/* The two sides that are compared, and what both are asked to do. */
+#ifndef SIDES_H
+#define SIDES_H
+
+#include "workloads.h"
+
+struct side {
+    uint32_t (*check_program)(const uint8_t *, size_t);
+    uint32_t (*evaluate)(const uint8_t *, size_t, const uint8_t *, size_t, uint64_t, uint16_t *, size_t, uint64_t *);
+    uint32_t (*read_record)(const uint8_t *, size_t, uint64_t *);
+    uint32_t (*check_record)(const uint8_t *, size_t, uint16_t *, size_t, uint64_t *);
+};
+
+extern const struct side library, plain;
+
+/* Compares all that the two sides answer and leave in a table of CELLS_LENT cells each: on the workload itself, on
+ * tables and bytes cut short, and on bytes with one changed. Ends the program where they differ. Answers how many calls
+ * were compared. */
+uint64_t agree(const struct workload *w, uint16_t *one, uint16_t *two);
+
+#endif

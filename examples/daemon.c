@@ -1,0 +1,222 @@
+/* A small gateway: what a daemon in C does with the library, step by step.
+ *
+ * Samples of a contact go into a ring, and the trace is taken from it. Each rule is checked, evaluated on the trace
+ * and recorded, and the record is appended to an archive. Then the archive is read back from its file and walked
+ * from its end, and each record is checked. Every refusal is told in words with its number.
+ *
+ * Build:  make lib && cc -std=c99 -Ibuild/include examples/daemon.c -Lbuild/lib -lgateway -o daemon
+ * Run:    ./daemon [-i] [-a ARCHIVE] [RULE ..]          (`make example` builds it and runs it with no arguments)
+ *   -i          samples come from standard input, a character 0 or 1 each, white space apart; else from SAMPLES
+ *   -a ARCHIVE  the file that records are appended to; else a temporary one, removed at the end
+ *   RULE        a rule in hexadecimal, such as "01 01 01 02 00 22 10"; with none, those of RULES
+ * Exit status: 0; 1 for a wrong argument or sample, or a file that cannot be opened, read or written; 2 if a record
+ * of the archive is refused or differs.
+ */
+#include <ctype.h>
+#include <errno.h>
+#include <inttypes.h>
+#include <stdio.h>
+#include <stdlib.h>
+#include <string.h>
+#include "sikafondza.h"
+
+enum {
+    SLOTS = 9,                     /* samples that the ring holds */
+    TRACE = (SLOTS + 7) / 8,       /* bytes of the longest trace */
+    CELLS = 16384,                 /* cells of the table: a rule that needs more is refused */
+    PROGRAM = 4096,                /* bytes of the longest rule */
+    RECORD = PROGRAM + TRACE + 21, /* bytes of the longest record */
+    ARCHIVE = 1 << 20              /* bytes of the longest archive that this daemon reads back */
+};
+
+static const char SAMPLES[] = "001111111111";
+static const struct { const char *name, *hex; } RULES[] = {
+    {"every sample is 1", "01 01 01 0B 00 23 22 10 01 23 20 10 80 21 10 00"},
+    {"not every sample is 1", "02 01 01 05 00 23 81 10 00 01 01 01 0B 00 23 22 10 01 23 20 10 81 21 10 00"},
+    {"every sample is 1, but tl forgotten", "01 01 01 0A 00 23 22 10 01 23 20 10 80 10 00"},
+    {"a list with a sample in front", "01 01 01 04 00 22 24 01 10"}};
+static const uint8_t LABEL[8] = {'P', 'R', 'E', 'S', 'S', '-', '0', '7'}; /* the site's */
+static const char *const VERDICTS[] = {"forever", "no", "yes", "head of empty", "tail of empty"};
+static const char *const REFUSALS[] = {
+    [SIK_REFUSED_TRAILER_MISSING] = "too few bytes for a trailer",
+    [SIK_REFUSED_MARK_OR_FORMAT] = "not the end of a record of format 1",
+    [SIK_REFUSED_TRAILER_FIELDS] = "the lengths in the trailer do not fit",
+    [SIK_REFUSED_VERDICT_OR_PASSES] = "no such verdict, or a pass count of 0",
+    [SIK_REFUSED_PROGRAM_LENGTH] = "the rule is empty or too long",
+    [SIK_REFUSED_FUNCTION_COUNT] = "no functions or too many",
+    [SIK_REFUSED_HEADER_CUT] = "the header of a function is cut off",
+    [SIK_REFUSED_PARAMETER_KINDS] = "too many parameters, or a kind for an absent one",
+    [SIK_REFUSED_BODY_LENGTH] = "a body is empty, too long or cut off",
+    [SIK_REFUSED_BYTES_AFTER_FUNCTIONS] = "bytes after the last function",
+    [SIK_REFUSED_MAIN_KIND] = "function 0 does not make a Bool of one list",
+    [SIK_REFUSED_BODY_ENDS] = "an expression is cut off",
+    [SIK_REFUSED_TOO_DEEP] = "an expression is nested too deep",
+    [SIK_REFUSED_LIST_CONSTRUCTOR] = "a rule cannot construct lists",
+    [SIK_REFUSED_UNKNOWN_BYTE] = "an unknown byte, or an absent parameter or function",
+    [SIK_REFUSED_WRONG_KIND] = "a Bool where a list is due, or a list for a Bool",
+    [SIK_REFUSED_BYTES_AFTER_EXPRESSION] = "bytes after an expression",
+    [SIK_REFUSED_RING_LENGTH] = "the ring has no slots or too many",
+    [SIK_REFUSED_RING_STATE] = "the state does not fit the ring",
+    [SIK_REFUSED_TRACE_LENGTH] = "too many samples, or a trace of another length",
+    [SIK_REFUSED_TABLE_SHORT] = "the table has too few cells for the rule",
+    [SIK_REFUSED_OUTPUT_SHORT] = "the output is too short"};
+
+/* What is lent to the library. */
+static uint8_t slots[SLOTS], trace[TRACE], program[PROGRAM + 1], record[RECORD], archived[ARCHIVE];
+static uint64_t state[2], samples /* in the trace */, parts[9], answer[3];
+static size_t archived_len;
+static uint16_t table[CELLS];
+
+/* Ends the line with the refusal if there is one; answers whether there is. */
+static int refused(uint32_t number)
+{
+    if (number != 0)
+        printf("refused with %" PRIu32 ": %s\n", number, REFUSALS[number]);
+    return number != 0;
+}
+
+static int fail(const char *what, const char *why)
+{
+    fflush(stdout);
+    fprintf(stderr, "daemon: %s: %s\n", what, why);
+    return 1;
+}
+
+/* A sample comes in: the ring takes it, and the trace is taken from the ring. */
+static void add_sample(uint8_t sample)
+{
+    const char *lost = state[1] == SLOTS ? ", the oldest is lost" : "";
+    printf("sample %d: ", sample);
+    if (refused(sik_ring_add(slots, SLOTS, state, sample)) ||
+        refused(sik_ring_trace(slots, SLOTS, state, trace, TRACE, &samples)))
+        return;
+    printf("the ring holds ");
+    for (uint64_t i = 0; i < samples; i++)
+        putchar(trace[i / 8] >> i % 8 & 1 ? '1' : '0');
+    puts(lost);
+}
+
+static int add_input(void)
+{
+    int c;
+    while ((c = getchar()) != EOF)
+        if (c == '0' || c == '1')
+            add_sample(c == '1');
+        else if (!isspace(c))
+            return fail("standard input", "a sample is a character 0 or 1");
+    return ferror(stdin) ? fail("standard input cannot be read", strerror(errno)) : 0;
+}
+
+/* Puts a rule's bytes into program; answers how many, or -1 if the text is not hexadecimal. Bytes past the room are
+ * left out: there is room for one more than a rule may have, so the library refuses that rule all the same. */
+static int read_hex(const char *text)
+{
+    int len = 0;
+    for (; *text != '\0'; text++) {
+        const char digits[3] = {text[0], text[1], '\0'};
+        if (*text == ' ')
+            continue;
+        if (strspn(digits, "0123456789ABCDEFabcdef") != 2)
+            return -1;
+        if (len <= PROGRAM)
+            program[len++] = (uint8_t)strtoul(digits, NULL, 16);
+        text++;
+    }
+    return len;
+}
+
+/* Checks, evaluates and records a rule. A refused rule leaves no record, and is no failure of the daemon. */
+static int run_rule(const char *name, const char *hex, FILE *archive)
+{
+    const size_t len = (size_t)read_hex(hex), trace_len = (size_t)(samples + 7) / 8;
+    printf("rule '%s': ", name);
+    if (refused(sik_check_program(program, len)))
+        return 0;
+    printf("accepted, bytes %zu\n  evaluated: ", len);
+    if (refused(sik_evaluate(program, len, trace, trace_len, samples, table, CELLS, answer)))
+        return 0;
+    printf("%s, passes %" PRIu64 "\n  recorded: ", VERDICTS[answer[0]], answer[1]);
+    if (refused(sik_write_record(program, len, trace, trace_len, samples, LABEL, table, CELLS, record, RECORD, answer)))
+        return 0;
+    printf("bytes %" PRIu64 "\n", answer[0]);
+    if (fseek(archive, 0, SEEK_END) != 0 || fwrite(record, 1, (size_t)answer[0], archive) != answer[0] ||
+        fflush(archive) != 0)
+        return fail("the archive cannot be written", strerror(errno));
+    return 0;
+}
+
+/* Reads the whole archive from its file. */
+static int read_archive(FILE *archive)
+{
+    const int failed = fseek(archive, 0, SEEK_SET);
+    archived_len = failed ? 0 : fread(archived, 1, ARCHIVE, archive);
+    if (failed || ferror(archive))
+        return fail("the archive cannot be read", strerror(errno));
+    return archived_len < ARCHIVE ? 0 : fail("the archive cannot be read", "it is too long");
+}
+
+/* Walks the archive from its end and checks each record; answers 0 if all agree, else 2. A record that cannot be
+ * read ends the walk, since nothing tells where the one before it ends. */
+static int walk(void)
+{
+    int records = 0, agree = 0;
+    printf("archive: bytes %zu\n", archived_len);
+    for (size_t len = archived_len; len > 0; len = (size_t)parts[8]) {
+        printf("record %d from the end: ", ++records);
+        if (refused(sik_read_record(archived, len, parts)))
+            return 2;
+        printf("bytes %" PRIu64 ", label ", len - parts[8]);
+        for (uint64_t i = parts[5]; i < parts[5] + sizeof LABEL; i++)
+            putchar(isprint(archived[i]) ? archived[i] : '.');
+        printf(", samples %" PRIu64 ", %s, passes %" PRIu64 ": ", parts[4], VERDICTS[parts[6]], parts[7]);
+        if (refused(sik_check_record(archived, len, table, CELLS, answer)))
+            continue;
+        puts(answer[0] == SIK_AGREES ? "agrees" : "differs");
+        agree += answer[0] == SIK_AGREES;
+    }
+    printf("end of the archive: %d of %d records agree\n", agree, records);
+    return agree == records ? 0 : 2;
+}
+
+int main(int argc, char **argv)
+{
+    const char *path = NULL;
+    int input = 0, next = 1, status = 0;
+    for (; next < argc && argv[next][0] == '-'; next++)
+        if (strcmp(argv[next], "-i") == 0)
+            input = 1;
+        else if (strcmp(argv[next], "-a") == 0 && next + 1 < argc)
+            path = argv[++next];
+        else
+            return fail(argv[next], "the arguments are [-i] [-a ARCHIVE] [RULE ..]");
+    for (int i = next; i < argc; i++)
+        if (read_hex(argv[i]) < 0)
+            return fail(argv[i], "a rule is given in hexadecimal");
+
+    FILE *archive = path != NULL ? fopen(path, "a+b") : tmpfile();
+    if (archive == NULL)
+        return fail("the archive cannot be opened", strerror(errno));
+    if (read_archive(archive) != 0)
+        return 1;
+    if (archived_len > 0 && sik_read_record(archived, archived_len, parts) != 0) {
+        puts("nothing is appended: the archive does not end in a record");
+        return walk();
+    }
+
+    if (input)
+        status = add_input();
+    for (const char *s = input ? "" : SAMPLES; *s != '\0'; s++)
+        add_sample(*s == '1');
+    if (next == argc)
+        for (size_t i = 0; i < sizeof RULES / sizeof *RULES && status == 0; i++)
+            status = run_rule(RULES[i].name, RULES[i].hex, archive);
+    for (; next < argc && status == 0; next++)
+        status = run_rule(argv[next], argv[next], archive);
+    if (status == 0 && (status = read_archive(archive)) == 0)
+        status = walk();
+
+    fclose(archive);
+    if (fflush(stdout) != 0 || ferror(stdout))
+        return fail("standard output cannot be written", strerror(errno));
+    return status;
+}

@@ -1,0 +1,113 @@
+//! The kinds of cases. Each lends memory to the library and compares all it leaves with the oracle.
+
+mod evaluation;
+mod limits;
+mod listing;
+mod papers;
+mod program;
+mod record;
+mod ring;
+
+use super::lent::{Lent, Word};
+use super::random::Random;
+use super::report::Report;
+
+/// What a case works with.
+pub struct Bench<'a> {
+    pub random: Random,
+    pub report: &'a mut Report,
+    /// The kind of case being run.
+    pub kind: &'static str,
+    pub round: u64,
+    pub exact: bool,
+    pub listing: Option<&'a str>,
+}
+
+/// What a kind of case gives: nothing, or the difference found.
+pub type Compared = Result<(), String>;
+
+/// The most cells of a table that are printed.
+const SHOWN: usize = 256;
+
+/// A kind of case: its name and what runs it in a round.
+pub type Kind = (&'static str, fn(&mut Bench) -> Compared);
+
+pub const KINDS: [Kind; 10] = [
+    ("papers", papers::run),
+    ("check", program::run),
+    ("evaluate", evaluation::run),
+    ("read", record::run_read),
+    ("ring-add", ring::run_add),
+    ("ring-trace", ring::run_trace),
+    ("write", record::run_write),
+    ("check-record", record::run_check),
+    ("limits", limits::run),
+    ("listing", listing::run),
+];
+
+impl Bench<'_> {
+    /// Lends memory with this content.
+    fn lend<T: Word>(&mut self, content: &[T]) -> Lent<T> {
+        let null = self.random.one_in(2);
+        if self.exact {
+            return Lent::new(content, 0, 0, null);
+        }
+        let (front, back) = (self.random.between(8, 23), self.random.between(8, 23));
+        Lent::new(content, front, back, null)
+    }
+
+    /// Counts a case in which all agrees, or gives the difference with the case in hex.
+    fn close(&mut self, found: Findings, number: u32, story: impl Fn() -> String) -> Compared {
+        if found.text.is_empty() {
+            self.report.count(self.kind, number);
+            return Ok(());
+        }
+        Err(found.text + &story())
+    }
+}
+
+/// The differences found in a case, one a line.
+#[derive(Default)]
+struct Findings {
+    text: String,
+}
+
+impl Findings {
+    /// Compares the number answered; 0 is no refusal.
+    fn number(&mut self, want: u32, have: u32) {
+        if want != have {
+            self.text += &format!("library answers {have}, oracle {want}\n");
+        }
+    }
+
+    /// Compares all of a lent buffer.
+    fn lent<T: Word>(&mut self, name: &str, have: &Lent<T>, want: &[T]) {
+        if let Some(difference) = have.difference(want) {
+            self.text += &format!("{name}: {difference}\n");
+        }
+    }
+}
+
+/// The number of an answer; 0 is no refusal.
+fn number<T>(answer: &Result<T, u32>) -> u32 {
+    match answer {
+        Ok(_) => 0,
+        Err(number) => *number,
+    }
+}
+
+/// Bytes in hexadecimal.
+fn hex(bytes: &[u8]) -> String {
+    bytes.iter().map(|byte| format!("{byte:02x}")).collect()
+}
+
+/// A table's length and what its first cells held before.
+fn cells_hex(table: &[u16]) -> String {
+    let first = table.iter().take(SHOWN).map(|cell| format!(" {cell:x}"));
+    let rest = if table.len() > SHOWN { " ..." } else { "" };
+    format!(
+        "table of {} cells:{}{rest}",
+        table.len(),
+        first.collect::<String>()
+    )
+}

@@ -1,0 +1,174 @@
+//! Writing, reading and checking records.
+
+use super::super::generate::traces::{self, Trace};
+use super::super::generate::{programs, records};
+use super::super::{ffi, oracle};
+use super::evaluation::story;
+use super::{cells_hex, hex, number, Bench, Compared, Findings};
+
+/// What is handed in for a record.
+pub struct Order {
+    pub program: Vec<u8>,
+    pub trace: Trace,
+    pub label: [u8; 8],
+    pub table: Vec<u16>,
+    pub out: Vec<u8>,
+}
+
+/// One record of a program on a trace.
+pub fn run_write(bench: &mut Bench) -> Compared {
+    let random = &mut bench.random;
+    let program = programs::any(random, 12);
+    let samples = traces::fitting(random, &program);
+    let mut trace = traces::packed(random, &samples);
+    if random.one_in(15) {
+        traces::damage(random, &mut trace);
+    }
+    let table = traces::table(random, &program, trace.n);
+    let needed = program.len() + trace.bytes.len() + 21;
+    let room = match random.below(10) {
+        0 => needed - 1,
+        1 => random.between(0, needed),
+        2..=5 => needed,
+        _ => needed + random.below(30),
+    };
+    let order = Order {
+        program,
+        trace,
+        label: records::label(random),
+        table,
+        out: random.bytes(room),
+    };
+    compare_write(bench, order)
+}
+
+/// Compares the writing of a record.
+pub fn compare_write(bench: &mut Bench, mut order: Order) -> Compared {
+    let before = order.table.clone();
+    let mut table = bench.lend(&order.table);
+    let mut out = bench.lend(&order.out);
+    let mut answer = bench.random.words(3);
+    let mut lent_answer = bench.lend(&answer);
+    let want = expect_write(bench, &mut order, &mut answer);
+    let program = bench.lend(&order.program);
+    let trace = bench.lend(&order.trace.bytes);
+    let label = bench.lend(&order.label);
+    let have = ffi::write_record(
+        &program,
+        &trace,
+        order.trace.n,
+        &label,
+        &mut table,
+        &mut out,
+        &mut lent_answer,
+    );
+    let mut found = Findings::default();
+    found.number(want, have);
+    found.lent("program", &program, &order.program);
+    found.lent("trace", &trace, &order.trace.bytes);
+    found.lent("label", &label, &order.label);
+    found.lent("table", &table, &order.table);
+    found.lent("output", &out, &order.out);
+    found.lent("answer", &lent_answer, &answer);
+    bench.close(found, want, || order_story(&order, &before))
+}
+
+/// The number wanted; table, output and answer become what the library must leave.
+fn expect_write(bench: &mut Bench, order: &mut Order, answer: &mut [u64]) -> u32 {
+    let written = oracle::record::write(
+        &order.program,
+        &order.trace.bytes,
+        order.trace.n,
+        order.label,
+        &mut order.table,
+        &mut order.out,
+    );
+    if let Ok((length, evaluation)) = &written {
+        let (verdict, passes) = (evaluation.verdict, evaluation.passes);
+        answer.copy_from_slice(&[*length as u64, verdict.into(), passes.into()]);
+        bench.report.worked_out(evaluation);
+    }
+    number(&written)
+}
+
+/// An order in hex.
+fn order_story(order: &Order, table: &[u16]) -> String {
+    let case = story(&order.program, &order.trace, table);
+    let room = order.out.len();
+    format!(
+        "{case}\nlabel {}\noutput of {room} bytes",
+        hex(&order.label)
+    )
+}
+
+/// An archive read from its end, record by record until one is refused.
+pub fn run_read(bench: &mut Bench) -> Compared {
+    let archive = records::archive(&mut bench.random);
+    let mut rest = &archive[..];
+    while let Some(before) = compare_read(bench, rest)? {
+        rest = &rest[..before];
+    }
+    Ok(())
+}
+
+/// Compares the reading of the last record; gives the bytes before it.
+pub fn compare_read(bench: &mut Bench, bytes: &[u8]) -> Result<Option<usize>, String> {
+    let mut parts = bench.random.words(9);
+    let mut lent_parts = bench.lend(&parts);
+    let read = oracle::record::read(bytes);
+    let want = number(&read);
+    if let Ok(read) = &read {
+        parts.copy_from_slice(&read.numbers());
+    }
+    let lent = bench.lend(bytes);
+    let have = ffi::read_record(&lent, &mut lent_parts);
+    let mut found = Findings::default();
+    found.number(want, have);
+    found.lent("bytes", &lent, bytes);
+    found.lent("parts", &lent_parts, &parts);
+    bench.close(found, want, || format!("bytes {}", hex(bytes)))?;
+    Ok(read.ok().map(|read| read.before()))
+}
+
+/// A record checked, mostly a sound one, sometimes the last of an archive.
+pub fn run_check(bench: &mut Bench) -> Compared {
+    let random = &mut bench.random;
+    let bytes = match random.below(3) {
+        0 => records::archive(random),
+        _ => records::content(random, 30).bytes(),
+    };
+    let table = match oracle::record::read(&bytes) {
+        Ok(parts) => {
+            let (start, length) = parts.program;
+            traces::table(random, &bytes[start..start + length], parts.n.into())
+        }
+        Err(_) => {
+            let length = random.below(50);
+            traces::garbage(random, length)
+        }
+    };
+    compare_check(bench, &bytes, table)
+}
+
+/// Compares the checking of the last record.
+pub fn compare_check(bench: &mut Bench, bytes: &[u8], mut table: Vec<u16>) -> Compared {
+    let before = table.clone();
+    let mut lent_table = bench.lend(&table);
+    let mut answer = bench.random.words(1);
+    let mut lent_answer = bench.lend(&answer);
+    let checked = oracle::record::check(bytes, &mut table);
+    let want = number(&checked);
+    if let Ok((agrees, evaluation)) = checked {
+        answer[0] = u64::from(agrees);
+        bench.report.worked_out(&evaluation);
+    }
+    let lent = bench.lend(bytes);
+    let have = ffi::check_record(&lent, &mut lent_table, &mut lent_answer);
+    let mut found = Findings::default();
+    found.number(want, have);
+    found.lent("bytes", &lent, bytes);
+    found.lent("table", &lent_table, &table);
+    found.lent("answer", &lent_answer, &answer);
+    let story = || format!("bytes {}\n{}", hex(bytes), cells_hex(&before));
+    bench.close(found, want, story)
+}

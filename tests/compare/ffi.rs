@@ -1,0 +1,154 @@
+//! The library's C interface, and calls of it on lent memory.
+
+use super::lent::Lent;
+
+extern "C" {
+    fn sik_ring_add(slots: *mut u8, slots_len: usize, state: *mut u64, sample: u8) -> u32;
+    fn sik_ring_trace(
+        slots: *const u8,
+        slots_len: usize,
+        state: *const u64,
+        out: *mut u8,
+        out_len: usize,
+        samples: *mut u64,
+    ) -> u32;
+    fn sik_check_program(program: *const u8, program_len: usize) -> u32;
+    fn sik_evaluate(
+        program: *const u8,
+        program_len: usize,
+        trace: *const u8,
+        trace_len: usize,
+        n: u64,
+        table: *mut u16,
+        table_len: usize,
+        answer: *mut u64,
+    ) -> u32;
+    fn sik_write_record(
+        program: *const u8,
+        program_len: usize,
+        trace: *const u8,
+        trace_len: usize,
+        n: u64,
+        label: *const u8,
+        table: *mut u16,
+        table_len: usize,
+        out: *mut u8,
+        out_len: usize,
+        answer: *mut u64,
+    ) -> u32;
+    fn sik_read_record(bytes: *const u8, bytes_len: usize, parts: *mut u64) -> u32;
+    fn sik_check_record(
+        bytes: *const u8,
+        bytes_len: usize,
+        table: *mut u16,
+        table_len: usize,
+        answer: *mut u64,
+    ) -> u32;
+}
+
+/// Adds a sample; the state has 2 words.
+pub fn ring_add(slots: &mut Lent<u8>, state: &mut Lent<u64>, sample: u8) -> u32 {
+    assert_eq!(state.len(), 2);
+    let length = slots.len();
+    unsafe { sik_ring_add(slots.pointer_mut(), length, state.pointer_mut(), sample) }
+}
+
+/// Takes a trace; the state has 2 words, the answer 1.
+pub fn ring_trace(
+    slots: &Lent<u8>,
+    state: &Lent<u64>,
+    out: &mut Lent<u8>,
+    samples: &mut Lent<u64>,
+) -> u32 {
+    assert_eq!((state.len(), samples.len()), (2, 1));
+    let length = out.len();
+    unsafe {
+        sik_ring_trace(
+            slots.pointer(),
+            slots.len(),
+            state.pointer(),
+            out.pointer_mut(),
+            length,
+            samples.pointer_mut(),
+        )
+    }
+}
+
+/// Checks a program.
+pub fn check_program(program: &Lent<u8>) -> u32 {
+    unsafe { sik_check_program(program.pointer(), program.len()) }
+}
+
+/// Evaluates; the answer has 2 words.
+pub fn evaluate(
+    program: &Lent<u8>,
+    trace: &Lent<u8>,
+    n: u64,
+    table: &mut Lent<u16>,
+    answer: &mut Lent<u64>,
+) -> u32 {
+    assert_eq!(answer.len(), 2);
+    let length = table.len();
+    unsafe {
+        sik_evaluate(
+            program.pointer(),
+            program.len(),
+            trace.pointer(),
+            trace.len(),
+            n,
+            table.pointer_mut(),
+            length,
+            answer.pointer_mut(),
+        )
+    }
+}
+
+/// Writes a record; the label has 8 bytes, the answer 3 words.
+pub fn write_record(
+    program: &Lent<u8>,
+    trace: &Lent<u8>,
+    n: u64,
+    label: &Lent<u8>,
+    table: &mut Lent<u16>,
+    out: &mut Lent<u8>,
+    answer: &mut Lent<u64>,
+) -> u32 {
+    assert_eq!((label.len(), answer.len()), (8, 3));
+    let (cells, room) = (table.len(), out.len());
+    unsafe {
+        sik_write_record(
+            program.pointer(),
+            program.len(),
+            trace.pointer(),
+            trace.len(),
+            n,
+            label.pointer(),
+            table.pointer_mut(),
+            cells,
+            out.pointer_mut(),
+            room,
+            answer.pointer_mut(),
+        )
+    }
+}
+
+/// Reads the last record; the parts have 9 words.
+pub fn read_record(bytes: &Lent<u8>, parts: &mut Lent<u64>) -> u32 {
+    assert_eq!(parts.len(), 9);
+    unsafe { sik_read_record(bytes.pointer(), bytes.len(), parts.pointer_mut()) }
+}
+
+/// Checks the last record; the answer has 1 word.
+pub fn check_record(bytes: &Lent<u8>, table: &mut Lent<u16>, answer: &mut Lent<u64>) -> u32 {
+    assert_eq!(answer.len(), 1);
+    let length = table.len();
+    unsafe {
+        sik_check_record(
+            bytes.pointer(),
+            bytes.len(),
+            table.pointer_mut(),
+            length,
+            answer.pointer_mut(),
+        )
+    }
+}

@@ -1,0 +1,145 @@
+//! Damage to programs: each sort of fault on purpose, and changes at random.
+
+use super::super::random::Random;
+use super::programs::{self, Draft};
+use super::writer::CALL;
+
+/// A damaged program; it may still be accepted.
+pub fn program(random: &mut Random) -> Vec<u8> {
+    match random.below(20) {
+        0 => {
+            let depth = random.pick(&[64, 65, 65, 66, 100]);
+            let draft = programs::deep(random, depth);
+            finished(random, draft, 0)
+        }
+        1 => {
+            let draft = programs::edge(random);
+            finished(random, draft, 0)
+        }
+        _ => {
+            let draft = programs::draft(random);
+            let faults = random.pick(&[1, 1, 1, 1, 2, 3]);
+            finished(random, draft, faults)
+        }
+    }
+}
+
+/// The bytes of a draft with so many faults, sometimes damaged further.
+fn finished(random: &mut Random, mut draft: Draft, faults: usize) -> Vec<u8> {
+    for _ in 0..faults {
+        damage_draft(random, &mut draft);
+    }
+    let mut bytes = draft.bytes();
+    if random.one_in(5) {
+        damage_bytes(random, &mut bytes);
+    }
+    bytes
+}
+
+/// One fault in a draft.
+fn damage_draft(random: &mut Random, draft: &mut Draft) {
+    let own = random.below(draft.parts.len());
+    match random.below(14) {
+        0 => draft.count = Some(random.pick(&[0, 33, 34, 128, 255])),
+        1 => draft.count = Some(near(random, draft.parts.len() as u8)),
+        2 | 3 => damage_header(random, draft, own),
+        4 => damage_header(random, draft, 0),
+        5 => shorten(random, &mut draft.parts[own].body),
+        6 => lengthen(random, &mut draft.parts[own].body),
+        7 => swap_headers(random, draft),
+        _ => damage_body(random, draft, own),
+    }
+}
+
+/// A number one off or two.
+fn near(random: &mut Random, number: u8) -> u8 {
+    let change = random.pick(&[1, 2, 254, 255]);
+    number.wrapping_add(change)
+}
+
+/// One wrong byte or length in a header.
+fn damage_header(random: &mut Random, draft: &mut Draft, own: usize) {
+    let part = &mut draft.parts[own];
+    let mut header = part.right_header();
+    match random.below(6) {
+        0 => header[0] = random.pick(&[0, 1, 2, 3, 4, 5, 6, 255]),
+        1 => header[1] ^= 1 << random.below(8),
+        2 => header[1] = random.byte(),
+        3 => [header[2], header[3]] = random.pick(&[0u16, 1, 1_024, 1_025, 65_535]).to_le_bytes(),
+        4 => header[2] = near(random, header[2]),
+        _ => header[random.below(4)] = random.byte(),
+    }
+    part.header = Some(header);
+}
+
+/// Drops bytes from a body's end, but not all.
+fn shorten(random: &mut Random, body: &mut Vec<u8>) {
+    let left = random.between(1, body.len());
+    body.truncate(left);
+}
+
+/// Adds bytes to a body's end.
+fn lengthen(random: &mut Random, body: &mut Vec<u8>) {
+    let more = random.pick(&[1, 1, 2, 3, 1_020]);
+    for _ in 0..more {
+        let byte = body_byte(random);
+        body.push(byte);
+    }
+}
+
+/// Two functions keep their bodies and change their headers.
+fn swap_headers(random: &mut Random, draft: &mut Draft) {
+    let (one, two) = (
+        random.below(draft.parts.len()),
+        random.below(draft.parts.len()),
+    );
+    let shape = draft.parts[one].shape.clone();
+    draft.parts[one].shape = draft.parts[two].shape.clone();
+    draft.parts[two].shape = shape;
+}
+
+/// One byte of a body changed, dropped or inserted.
+fn damage_body(random: &mut Random, draft: &mut Draft, own: usize) {
+    let functions = draft.parts.len() as u8;
+    let body = &mut draft.parts[own].body;
+    let place = random.below(body.len());
+    match random.below(8) {
+        0 => body[place] = 0x24,
+        1 => body[place] = CALL + functions % 32,
+        2 => body[place] = random.byte(),
+        3 if body.len() > 1 => {
+            body.remove(place);
+        }
+        4 => {
+            let byte = body_byte(random);
+            body.insert(place, byte);
+        }
+        _ => body[place] = body_byte(random),
+    }
+}
+
+/// A byte that bodies are made of.
+fn body_byte(random: &mut Random) -> u8 {
+    random.pick(&[
+        0x00, 0x01, 0x02, 0x03, 0x10, 0x11, 0x12, 0x13, 0x14, 0x20, 0x21, 0x22, 0x23, 0x24, 0x25,
+        0x80, 0x81, 0x82, 0x9F, 0xA0,
+    ])
+}
+
+/// One change to the bytes, wherever it falls.
+fn damage_bytes(random: &mut Random, bytes: &mut Vec<u8>) {
+    let place = random.below(bytes.len());
+    match random.below(6) {
+        0 => bytes[place] = random.byte(),
+        1 => bytes[place] ^= 1 << random.below(8),
+        2 => {
+            bytes.remove(place);
+        }
+        3 => bytes.insert(place, random.byte()),
+        4 => bytes.truncate(place),
+        _ => {
+            let more = random.between(1, 6);
+            bytes.extend(random.bytes(more));
+        }
+    }
+}

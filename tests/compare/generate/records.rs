@@ -1,0 +1,176 @@
+//! Records and archives, sound and damaged.
+
+use super::super::oracle::record::Content;
+use super::super::oracle::{program, search, trace};
+use super::super::random::Random;
+use super::{programs, traces};
+
+/// A record's content; verdict and passes are mostly the right ones.
+pub fn content(random: &mut Random, damaged_in: usize) -> Content {
+    let program = programs::any(random, damaged_in);
+    let samples = traces::fitting(random, &program);
+    let (mut verdict, mut passes) = worked_out(&program, &samples);
+    if random.one_in(4) {
+        verdict = random.below(5) as u8;
+    }
+    if random.one_in(4) {
+        passes = random.pick(&[1, 2, 3, passes + 1, passes + 256, passes + 65_536, u32::MAX]);
+    }
+    let label = label(random);
+    Content {
+        program,
+        trace: traces::packed(random, &samples).bytes,
+        n: samples.len() as u16,
+        label,
+        verdict,
+        passes,
+    }
+}
+
+/// A site label, sometimes unset.
+pub fn label(random: &mut Random) -> [u8; 8] {
+    match random.one_in(3) {
+        true => [0; 8],
+        false => random.word().to_le_bytes(),
+    }
+}
+
+/// Verdict and passes of a program; for a refused one, any.
+fn worked_out(program: &[u8], samples: &[bool]) -> (u8, u32) {
+    match program::check(program) {
+        Ok(functions) => {
+            let evaluation = search::evaluate(&functions, samples);
+            (evaluation.verdict, evaluation.passes)
+        }
+        Err(_) => (1, 2),
+    }
+}
+
+/// An archive of some records, damaged or not.
+pub fn archive(random: &mut Random) -> Vec<u8> {
+    if random.one_in(20) {
+        let length = random.between(0, 40);
+        return random.bytes(length);
+    }
+    let mut archive = Vec::new();
+    if random.one_in(6) {
+        let stray = random.between(1, 30);
+        archive.extend(random.bytes(stray));
+    }
+    if random.one_in(60) {
+        let stray = random.between(65_000, 66_000);
+        archive.extend(random.bytes(stray));
+    }
+    for _ in 0..random.pick(&[1, 1, 2, 3, 5]) {
+        archive.extend(piece(random));
+    }
+    archive
+}
+
+/// One record of an archive, sometimes damaged.
+fn piece(random: &mut Random) -> Vec<u8> {
+    let mut content = content(random, 6);
+    if random.one_in(3) {
+        return damaged(random, &mut content);
+    }
+    content.bytes()
+}
+
+/// A record with damage to its content, its trailer or its length.
+fn damaged(random: &mut Random, content: &mut Content) -> Vec<u8> {
+    match random.below(8) {
+        0 => content.verdict = random.pick(&[5, 6, 128, 255]),
+        1 => content.passes = 0,
+        2 => long_trace(random, content),
+        3 => content.program = random.bytes(4_097),
+        4 => content.program.clear(),
+        _ => {}
+    }
+    let mut bytes = content.bytes();
+    match random.below(12) {
+        0..=4 => damage_trailer(random, &mut bytes),
+        5..=7 => damage_ends(random, &mut bytes),
+        8 => flip(random, &mut bytes),
+        _ => {}
+    }
+    bytes
+}
+
+/// More samples than a trace may have.
+fn long_trace(random: &mut Random, content: &mut Content) {
+    content.n = random.pick(&[4_096, 4_097, 4_104, 65_535]);
+    content.trace = random.bytes(trace::bytes_for(content.n.into()));
+}
+
+/// One field of the trailer, the verdict or the pass count changed.
+fn damage_trailer(random: &mut Random, bytes: &mut [u8]) {
+    let trailer = bytes.len() - 8;
+    match random.below(8) {
+        0 => bytes[trailer + 7] = random.byte(),
+        1 => bytes[trailer + 6] = random.pick(&[0, 2, 3, 0x52, 255]),
+        2 | 3 => shift(random, bytes, trailer),
+        4 => shift(random, bytes, trailer + 2),
+        5 => shift(random, bytes, trailer + 4),
+        6 => same_distances(bytes, trailer),
+        _ => bytes[trailer - 1 - random.below(5)] = random.byte(),
+    }
+}
+
+/// Changes the 16 bits at a place, mostly by little.
+fn shift(random: &mut Random, bytes: &mut [u8], at: usize) {
+    let number = u16::from_le_bytes([bytes[at], bytes[at + 1]]);
+    let changed = match random.below(6) {
+        0 => random.word() as u16,
+        1 => random.pick(&[0, 12, 13, 4_095, 4_096, 65_535]),
+        2 => number.wrapping_sub(1),
+        3 => number.wrapping_add(8),
+        _ => number.wrapping_add(1),
+    };
+    bytes[at..at + 2].copy_from_slice(&changed.to_le_bytes());
+}
+
+/// Makes the first distance the second.
+fn same_distances(bytes: &mut [u8], trailer: usize) {
+    bytes.copy_within(trailer + 2..trailer + 4, trailer);
+}
+
+/// Bytes dropped from or added to either end.
+fn damage_ends(random: &mut Random, bytes: &mut Vec<u8>) {
+    let some = random.between(1, 9);
+    match random.below(4) {
+        0 => bytes.truncate(bytes.len() - some),
+        1 => drop(bytes.drain(..some)),
+        2 => bytes.extend(random.bytes(some)),
+        _ => {
+            let place = random.between(0, bytes.len());
+            bytes.insert(place, random.byte());
+        }
+    }
+}
+
+/// Turns one bit anywhere.
+fn flip(random: &mut Random, bytes: &mut [u8]) {
+    let place = random.below(bytes.len());
+    bytes[place] ^= 1 << random.below(8);
+}
+
+/// An archive of sound records that has exactly so many bytes.
+pub fn of_length(random: &mut Random, length: usize) -> Vec<u8> {
+    let mut archive = Vec::new();
+    while length - archive.len() > 3_000 {
+        let bytes = content(random, 1_000_000).bytes();
+        if archive.len() + bytes.len() + 100 <= length {
+            archive.extend(bytes);
+        }
+    }
+    let last = Content {
+        program: programs::of_size(length - archive.len() - 21),
+        trace: Vec::new(),
+        n: 0,
+        label: [0; 8],
+        verdict: 1,
+        passes: 2,
+    };
+    archive.extend(last.bytes());
+    archive
+}

@@ -1,0 +1,103 @@
+//! Compares the library, called through its C interface, with a second implementation of document 01.
+//!
+//! Random and damaged programs, traces, tables, rings, records and archives are handed to both. The
+//! number answered, every answer and all of the lent memory must be the same, and the input must stay
+//! as it was.
+//!
+//! To build and run it:
+//!
+//! ```text
+//! rustc -O --edition 2021 tests/compare/main.rs -C link-arg=path/libgateway.a -o compare
+//! ./compare
+//! valgrind --error-exitcode=1 ./compare --exact --rounds 100
+//! ```
+//!
+//! Options:
+//! - `--seed S` and `--rounds R`: which cases and how many; a seed gives the same cases each time.
+//! - `--from R`: the first round, to run one again alone with `--rounds 1`.
+//! - `--exact`: each buffer is a heap allocation of exactly its length, without guard words.
+//! - `--listing PATH`: also runs the listing executable on archives and compares what it prints.
+//! - `--only KIND,KIND`: only these kinds of cases.
+//! - `--loud`: names each round and kind before it is run, to find one that does not return.
+//!
+//! A difference is printed with its seed, its round and the case in hexadecimal, and the exit status is 1.
+//! The status is 1 also where all kinds are run for 1,000 rounds or more and a number from 1 to 22 is
+//! never answered.
+//!
+//! Not covered: document 02, buffers that overlap, null pointers with a length other than 0, pass counts
+//! above some thousands, more than one evaluation with 16,777,216 cells (none with `--exact`), and the
+//! exit status of the listing executable.
+
+mod cases;
+mod ffi;
+mod generate;
+mod lent;
+mod options;
+mod oracle;
+mod random;
+mod report;
+
+use std::process::exit;
+
+use cases::{Bench, KINDS};
+use options::{Options, USAGE};
+use random::Random;
+use report::Report;
+
+fn main() {
+    let options = Options::read(std::env::args().skip(1)).unwrap_or_else(|fault| {
+        eprintln!("{fault}\n{USAGE}");
+        exit(2);
+    });
+    if let Some(name) = options.only.iter().find(|name| !known(name)) {
+        eprintln!("unknown kind {name}\n{USAGE}");
+        exit(2);
+    }
+    println!("compare: seed {}, rounds {}", options.seed, options.rounds);
+    let mut report = Report::default();
+    for round in options.from..options.from + options.rounds {
+        run_round(&options, round, &mut report);
+    }
+    end(&options, &report);
+}
+
+/// Whether there is a kind of case of that name.
+fn known(name: &str) -> bool {
+    KINDS.iter().any(|(kind, _)| *kind == name)
+}
+
+/// Runs every kind of case once; a difference ends the program.
+fn run_round(options: &Options, round: u64, report: &mut Report) {
+    for (place, (kind, run)) in KINDS.iter().enumerate() {
+        if !options.wants(kind) {
+            continue;
+        }
+        if options.loud {
+            eprintln!("round {round} {kind}");
+        }
+        let mut bench = Bench {
+            random: Random::new(options.seed, round, place as u64),
+            report,
+            kind,
+            round,
+            exact: options.exact,
+            listing: options.listing.as_deref(),
+        };
+        if let Err(difference) = run(&mut bench) {
+            let seed = options.seed;
+            println!("compare: difference in {kind}, seed {seed}, round {round}\n{difference}");
+            exit(1);
+        }
+    }
+}
+
+/// Prints the counts; a full run must have met every refusal number.
+fn end(options: &Options, report: &Report) {
+    print!("{}", report.lines());
+    let missing = report.never_met();
+    if options.full() && !missing.is_empty() {
+        println!("compare: never met: {missing:?}");
+        exit(1);
+    }
+    println!("compare: {} cases agree", report.cases());
+}
