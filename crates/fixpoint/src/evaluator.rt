@@ -8,7 +8,7 @@ ghost use Rattle.fixpoint.specs.Mirror.{setup, evalAt, branchAt, callAt,
 
 // The number of the outcome of the expression at a place, 0 where it is undecided. `env` has the numbers
 // of the parameter values, and at 4 the length of the trace.
-pub fn eval(
+pub fn outcome(
     code: &[u8; 4096],
     ends: &[u16; 4096],
     functions: &[u64; 96],
@@ -19,6 +19,22 @@ pub fn eval(
     at: usize,
 ) -> u16
     ensures { λ r. ⌜ r ≡ evalAt (setup (now (code .entry)) (now (ends .entry)) (now (functions .entry)) (now (trace .entry))) (now (table .entry)) (now (env .entry)) depth at ⌝ }
+{
+    eval(code, ends, functions, trace, &table, env, depth, at)
+}
+
+// As outcome. The table is a reference to its slice: it goes from call to call as one word.
+fn eval(
+    code: &[u8; 4096],
+    ends: &[u16; 4096],
+    functions: &[u64; 96],
+    trace: &[u8; 512],
+    table: &&[u16],
+    env: &[u16; 5],
+    depth: u8,
+    at: usize,
+) -> u16
+    ensures { λ r. ⌜ r ≡ evalAt (setup (now (code .entry)) (now (ends .entry)) (now (functions .entry)) (now (trace .entry))) (now (now (table .entry))) (now (env .entry)) depth at ⌝ }
 {
     if depth == 0 {
         return 0;
@@ -53,12 +69,12 @@ fn operand(
     ends: &[u16; 4096],
     functions: &[u64; 96],
     trace: &[u8; 512],
-    table: &[u16],
+    table: &&[u16],
     env: &[u16; 5],
     depth: u8,
     at: usize,
 ) -> u16
-    ensures { λ r. ⌜ r ≡ evalAt (setup (now (code .entry)) (now (ends .entry)) (now (functions .entry)) (now (trace .entry))) (now (table .entry)) (now (env .entry)) depth at ⌝ }
+    ensures { λ r. ⌜ r ≡ evalAt (setup (now (code .entry)) (now (ends .entry)) (now (functions .entry)) (now (trace .entry))) (now (now (table .entry))) (now (env .entry)) depth at ⌝ }
 {
     if depth == 0 {
         return 0;
@@ -81,12 +97,12 @@ fn simple(
     ends: &[u16; 4096],
     functions: &[u64; 96],
     trace: &[u8; 512],
-    table: &[u16],
+    table: &&[u16],
     env: &[u16; 5],
     depth: u8,
     at: usize,
 ) -> u16
-    ensures { λ r. ⌜ r ≡ evalAt (setup (now (code .entry)) (now (ends .entry)) (now (functions .entry)) (now (trace .entry))) (now (table .entry)) (now (env .entry)) depth at ⌝ }
+    ensures { λ r. ⌜ r ≡ evalAt (setup (now (code .entry)) (now (ends .entry)) (now (functions .entry)) (now (trace .entry))) (now (now (table .entry))) (now (env .entry)) depth at ⌝ }
 {
     if depth == 0 {
         return 0;
@@ -119,12 +135,12 @@ fn branch(
     ends: &[u16; 4096],
     functions: &[u64; 96],
     trace: &[u8; 512],
-    table: &[u16],
+    table: &&[u16],
     env: &[u16; 5],
     depth: u8,
     at: usize,
 ) -> u16
-    ensures { λ r. ⌜ r ≡ branchAt (setup (now (code .entry)) (now (ends .entry)) (now (functions .entry)) (now (trace .entry))) (now (table .entry)) (now (env .entry)) depth at ⌝ }
+    ensures { λ r. ⌜ r ≡ branchAt (setup (now (code .entry)) (now (ends .entry)) (now (functions .entry)) (now (trace .entry))) (now (now (table .entry))) (now (env .entry)) depth at ⌝ }
 {
     let condition = simple(code, ends, functions, trace, table, env, depth, at);
     let first = end(ends, at);
@@ -152,13 +168,13 @@ fn call(
     ends: &[u16; 4096],
     functions: &[u64; 96],
     trace: &[u8; 512],
-    table: &[u16],
+    table: &&[u16],
     env: &[u16; 5],
     depth: u8,
     at: usize,
     callee: u8,
 ) -> u16
-    ensures { λ r. ⌜ r ≡ callAt (setup (now (code .entry)) (now (ends .entry)) (now (functions .entry)) (now (trace .entry))) (now (table .entry)) (now (env .entry)) depth at callee ⌝ }
+    ensures { λ r. ⌜ r ≡ callAt (setup (now (code .entry)) (now (ends .entry)) (now (functions .entry)) (now (trace .entry))) (now (now (table .entry))) (now (env .entry)) depth at callee ⌝ }
 {
     if 32 <= callee {
         return 0;
@@ -209,9 +225,9 @@ fn end(ends: &[u16; 4096], at: usize) -> usize
 }
 
 // What the table holds for a configuration of a function.
-fn lookup(functions: &[u64; 96], table: &[u16], n: u16, g: usize, index: u64) -> u16
+fn lookup(functions: &[u64; 96], table: &&[u16], n: u16, g: usize, index: u64) -> u16
     requires { ⌜ g < 32 ⌝ }
-    ensures { λ r. ⌜ r ≡ lookupAt (now (functions .entry)) (now (table .entry)) n g index ⌝ }
+    ensures { λ r. ⌜ r ≡ lookupAt (now (functions .entry)) (now (now (table .entry))) n g index ⌝ }
 {
     let first = functions[g];
     if 4294967296 <= first {
@@ -222,8 +238,9 @@ fn lookup(functions: &[u64; 96], table: &[u16], n: u16, g: usize, index: u64) ->
     }
     let cell = (first + index) as usize;
     let list = codes::bit(functions[32 + g], 4);
-    if table.len() <= cell {
+    let cells = *table;
+    if cells.len() <= cell {
         return codes::held(list, n, 0);
     }
-    codes::held(list, n, table[cell])
+    codes::held(list, n, cells[cell])
 }

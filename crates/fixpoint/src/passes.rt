@@ -112,7 +112,7 @@ fn fill(
     let cell = (functions[g] as usize) + index;
     let mut env = [0, 0, 0, 0, n];
     setup::values(kinds, count, n, index as u64, &mut env);
-    let outcome = evaluator::eval(
+    let outcome = evaluator::outcome(
         code,
         ends,
         functions,

@@ -40,50 +40,50 @@ use Rattle.rule.specs.declared.Node.{Node}
 use Rattle.fixpoint.specs.Mirror.{setup, headOf, tailOf, nullOf, nodeBy, evalAt, branchAt, callAt}
 use Rattle.fixpoint.proofs.EvalWays.{eval-deep, eval-past, eval-node, eval-param, eval-head, eval-tail, eval-null, branch-true, branch-false, branch-other, call-none, call-args, Along, along-start, along-end, along-stop, along-more}
 
-abbrev μ-branch : Measures 6 branch-kinds.ps ℕ
+abbrev μ-branch : Measures 7 branch-kinds.ps ℕ
 μ-branch κs a = a .1 .1 .1 .1 .1 .1 .0 * 4 + 3
 
-abbrev μ-call : Measures 6 call-kinds.ps ℕ
+abbrev μ-call : Measures 7 call-kinds.ps ℕ
 μ-call κs a = a .1 .1 .1 .1 .1 .1 .0 * 4 + 3
 
-abbrev μ-eval : Measures 6 eval-kinds.ps ℕ
+abbrev μ-eval : Measures 7 eval-kinds.ps ℕ
 μ-eval κs a = a .1 .1 .1 .1 .1 .1 .0 * 4
 
-abbrev μ-operand : Measures 6 operand-kinds.ps ℕ
+abbrev μ-operand : Measures 7 operand-kinds.ps ℕ
 μ-operand κs a = a .1 .1 .1 .1 .1 .1 .0 * 4 + 1
 
-abbrev μ-simple : Measures 6 simple-kinds.ps ℕ
+abbrev μ-simple : Measures 7 simple-kinds.ps ℕ
 μ-simple κs a = a .1 .1 .1 .1 .1 .1 .0 * 4 + 2
 
-abbrev branch-at : ℕ → In 6 branch-kinds.ps
-branch-at t = and 6 branch-kinds.ps (is 6 branch-kinds.ps μ-branch t) branch.Pre
+abbrev branch-at : ℕ → In 7 branch-kinds.ps
+branch-at t = and 7 branch-kinds.ps (is 7 branch-kinds.ps μ-branch t) branch.Pre
 
-abbrev branch-below : ℕ → In 6 branch-kinds.ps
-branch-below t = and 6 branch-kinds.ps (falls 6 branch-kinds.ps _<_ μ-branch t) branch.Pre
+abbrev branch-below : ℕ → In 7 branch-kinds.ps
+branch-below t = and 7 branch-kinds.ps (falls 7 branch-kinds.ps _<_ μ-branch t) branch.Pre
 
-abbrev call-at : ℕ → In 6 call-kinds.ps
-call-at t = and 6 call-kinds.ps (is 6 call-kinds.ps μ-call t) call.Pre
+abbrev call-at : ℕ → In 7 call-kinds.ps
+call-at t = and 7 call-kinds.ps (is 7 call-kinds.ps μ-call t) call.Pre
 
-abbrev call-below : ℕ → In 6 call-kinds.ps
-call-below t = and 6 call-kinds.ps (falls 6 call-kinds.ps _<_ μ-call t) call.Pre
+abbrev call-below : ℕ → In 7 call-kinds.ps
+call-below t = and 7 call-kinds.ps (falls 7 call-kinds.ps _<_ μ-call t) call.Pre
 
-abbrev eval-at : ℕ → In 6 eval-kinds.ps
-eval-at t = and 6 eval-kinds.ps (is 6 eval-kinds.ps μ-eval t) eval.Pre
+abbrev eval-at : ℕ → In 7 eval-kinds.ps
+eval-at t = and 7 eval-kinds.ps (is 7 eval-kinds.ps μ-eval t) eval.Pre
 
-abbrev eval-below : ℕ → In 6 eval-kinds.ps
-eval-below t = and 6 eval-kinds.ps (falls 6 eval-kinds.ps _<_ μ-eval t) eval.Pre
+abbrev eval-below : ℕ → In 7 eval-kinds.ps
+eval-below t = and 7 eval-kinds.ps (falls 7 eval-kinds.ps _<_ μ-eval t) eval.Pre
 
-abbrev operand-at : ℕ → In 6 operand-kinds.ps
-operand-at t = and 6 operand-kinds.ps (is 6 operand-kinds.ps μ-operand t) operand.Pre
+abbrev operand-at : ℕ → In 7 operand-kinds.ps
+operand-at t = and 7 operand-kinds.ps (is 7 operand-kinds.ps μ-operand t) operand.Pre
 
-abbrev operand-below : ℕ → In 6 operand-kinds.ps
-operand-below t = and 6 operand-kinds.ps (falls 6 operand-kinds.ps _<_ μ-operand t) operand.Pre
+abbrev operand-below : ℕ → In 7 operand-kinds.ps
+operand-below t = and 7 operand-kinds.ps (falls 7 operand-kinds.ps _<_ μ-operand t) operand.Pre
 
-abbrev simple-at : ℕ → In 6 simple-kinds.ps
-simple-at t = and 6 simple-kinds.ps (is 6 simple-kinds.ps μ-simple t) simple.Pre
+abbrev simple-at : ℕ → In 7 simple-kinds.ps
+simple-at t = and 7 simple-kinds.ps (is 7 simple-kinds.ps μ-simple t) simple.Pre
 
-abbrev simple-below : ℕ → In 6 simple-kinds.ps
-simple-below t = and 6 simple-kinds.ps (falls 6 simple-kinds.ps _<_ μ-simple t) simple.Pre
+abbrev simple-below : ℕ → In 7 simple-kinds.ps
+simple-below t = and 7 simple-kinds.ps (falls 7 simple-kinds.ps _<_ μ-simple t) simple.Pre
 
 abbrev branch-claims : ℕ → branch-lts.Claims
 branch-claims t = (simple-below t, simple.Post, end-reads.Asked, end-reads.Learnt, eval-below t, eval.Post)
@@ -103,15 +103,15 @@ simple-claims t = (operand-below t, operand.Post, head-reads.Asked, head-reads.L
 abbrev call-Inv-loop : call-lts.InvT-loop
 call-Inv-loop code ends functions trace table env depth at callee g kinds count n index₀ place₀ i₀ index place i =
     let S = setup code ends functions trace in
-    Along S table n (evalAt S table env depth) g count at index place i
+    Along S (table .now) n (evalAt S (table .now) env depth) g count at index place i
 
 abbrev call-μ-loop : call-lts.MeasureT-loop
 call-μ-loop code ends functions trace table env depth at callee g kinds count n index₀ place₀ i₀ index place i = count - i
 
 at-node : (t : ℕ) (c : eval-lts.After-node-of (eval-claims t) (eval-at t) eval.Post) {k : Node} → c .node-of .result ≡ k →
-    let a = c .before .before .before .before .before .args in
+    let a = c .before .before .before .before .args in
     let S = setup (a .code .now) (a .ends .now) (a .functions .now) (a .trace .now) in
-    evalAt S (a .table .now) (a .env .now) (a .depth) (a .at) ≡ nodeBy S (a .table .now) (a .env .now) (evalAt S (a .table .now) (a .env .now) (a .depth - 1)) (a .at + 1) k
+    evalAt S (a .table .now .now) (a .env .now) (a .depth) (a .at) ≡ nodeBy S (a .table .now .now) (a .env .now) (evalAt S (a .table .now .now) (a .env .now) (a .depth - 1)) (a .at + 1) k
 at-node t c q = eval-node _ _ _ _ _ (c .before .before .if2 .left) (c .before .before .before .if1 .left) (sym (c .node-of .ensures) ∙ q)
 
 branch-simple-requires : (t : ℕ) → branch-lts.Need-simple-requires (branch-claims t) (branch-at t) branch.Post
@@ -304,7 +304,7 @@ eval-returns-6 : (t : ℕ) → eval-lts.Need-returns-6 (eval-claims t) (eval-at 
 eval-returns-6 t c = c .param .ensures ∙ sym (at-node t (c .before .before .before .before) (c .before .before .i .given .1))
 
 eval-returns-7 : (t : ℕ) → eval-lts.Need-returns-7 (eval-claims t) (eval-at t) eval.Post
-eval-returns-7 t c = c .head .ensures ∙ ap (λ (v : ℕ). headOf (c .before .before .before .before .before .before .before .before .before .before .args .trace .now) (getD (c .before .before .before .before .before .before .before .before .before .before .args .env .now) 4 0) v) (c .before .operand .ensures) ∙ sym (at-node t (c .before .before .before .before .before) (c .before .before .before .enum-told4 .given .1))
+eval-returns-7 t c = c .head .ensures ∙ ap (λ (v : ℕ). headOf (c .before .before .before .before .before .before .before .before .before .args .trace .now) (getD (c .before .before .before .before .before .before .before .before .before .args .env .now) 4 0) v) (c .before .operand .ensures) ∙ sym (at-node t (c .before .before .before .before .before) (c .before .before .before .enum-told4 .given .1))
 
 eval-returns-8 : (t : ℕ) → eval-lts.Need-returns-8 (eval-claims t) (eval-at t) eval.Post
 eval-returns-8 t c = c .tail .ensures ∙ ap (λ (v : ℕ). tailOf v) (c .before .operand2 .ensures) ∙ sym (at-node t (c .before .before .before .before) (c .before .before .enum-told5 .given .1))

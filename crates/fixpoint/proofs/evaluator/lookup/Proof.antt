@@ -39,7 +39,7 @@ held-requires c κs = search needs
 returns-3 : tie.Need-returns-3
 returns-3 c =
     let a = c .before .before .before .before .before .before .before .before .args in
-    c .held .ensures ∙ sym (lookup-held _ _ _ _ _ (c .before .before .before .before .before .if1 .left) (c .before .before .before .before .if2 .left) (c .before .before .bit .ensures) (List·getD-eq-default (a .table .now) 0 (c .before .if3 .taken)))
+    c .held .ensures ∙ sym (lookup-held _ _ _ _ _ (c .before .before .before .before .before .before .if1 .left) (c .before .before .before .before .before .if2 .left) (c .before .before .before .bit .ensures) (List·getD-eq-default (a .table .now .now) 0 (c .before .if3 .taken)))
 
 mul-held : tie.Need-mul-held
 mul-held c = search needs
@@ -51,7 +51,7 @@ held-requires-2 : tie.Need-held-requires-2
 held-requires-2 c κs = search needs
 
 returns-4 : tie.Need-returns-4
-returns-4 c = c .held2 .ensures ∙ sym (lookup-held _ _ _ _ _ (c .before .before .before .before .before .before .if1 .left) (c .before .before .before .before .before .if2 .left) (c .before .before .before .bit .ensures) refl)
+returns-4 c = c .held2 .ensures ∙ sym (lookup-held _ _ _ _ _ (c .before .before .before .before .before .before .before .if1 .left) (c .before .before .before .before .before .before .if2 .left) (c .before .before .before .before .bit .ensures) refl)
 
 pub lookup-spec : {M : Type 1} → statement M
 lookup-spec =

@@ -43,8 +43,8 @@ values-requires c κs =
     let a = c .before .before .before .before .before .before .args in
     (rw (c .before .before .at-most-four .ensures) (few-bound (getD (a .functions .now) (64 + a .g) 0)), c .before .before .before .before .before .before .pre .0 .samples)
 
-eval-requires : tie.Need-eval-requires
-eval-requires c κs = search needs
+outcome-requires : tie.Need-outcome-requires
+outcome-requires c κs = search needs
 
 same-length : tie.Need-same-length
 same-length c = search needs
@@ -54,7 +54,7 @@ returns c =
     let values = c .before .before .before .before in
     let counted = values .before .before .before in
     let a = counted .before .before .before .before .args in
-    fill-none (setup (a .code .now) (a .ends .now) (a .functions .now) (a .trace .now)) _ _ _ _ _ (env-filled (a .functions .now) (a .n) (a .g) (a .index) (counted .at-most-four .ensures) (values .values .ensures)) (c .before .eval .ensures) (c .if1 .taken)
+    fill-none (setup (a .code .now) (a .ends .now) (a .functions .now) (a .trace .now)) _ _ _ _ _ (env-filled (a .functions .now) (a .n) (a .g) (a .index) (counted .at-most-four .ensures) (values .values .ensures)) (c .before .outcome .ensures) (c .if1 .taken)
 
 mul-table : tie.Need-mul-table
 mul-table c = search needs
@@ -70,7 +70,7 @@ returns-2 c =
     let values = c .before .before .before .before in
     let counted = values .before .before .before in
     let a = counted .before .before .before .before .args in
-    fill-stored (setup (a .code .now) (a .ends .now) (a .functions .now) (a .trace .now)) _ _ _ _ _ (env-filled (a .functions .now) (a .n) (a .g) (a .index) (counted .at-most-four .ensures) (values .values .ensures)) (c .before .eval .ensures) (c .if1 .left)
+    fill-stored (setup (a .code .now) (a .ends .now) (a .functions .now) (a .trace .now)) _ _ _ _ _ (env-filled (a .functions .now) (a .n) (a .g) (a .index) (counted .at-most-four .ensures) (values .values .ensures)) (c .before .outcome .ensures) (c .if1 .left)
 
 pub fill-spec : {M : Type 1} → statement M
 fill-spec =
@@ -87,7 +87,7 @@ fill-spec =
     element-copy-out-cell
     add-cell
     values-requires
-    eval-requires
+    outcome-requires
     same-length
     returns
     mul-table
