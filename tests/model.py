@@ -437,10 +437,10 @@ def constants(crate):
     return {name: ast.literal_eval(text) for name, text in found}
 
 
-def calls(crate, file, *names):
-    """The calls of these functions with constants alone in a source, as (name, arguments)."""
+def calls(crate, files, *names):
+    """The calls of these functions with constants alone in the sources, as (name, arguments)."""
     known = {"usize::MAX": LARGEST, **constants(crate)}
-    source = (CRATES / crate / "src" / file).read_text()
+    source = "".join((CRATES / crate / "src" / file).read_text() for file in files.split())
     for name, text in re.findall(r"^    (%s)\((.*?),?\s*\);" % "|".join(names), source, re.M | re.S):
         text = re.sub(r'b"[^"]*"|&?(usize::MAX|\b[A-Z]+\b)', lambda m: repr(known[m[1]]) if m[1] else m[0], text)
         try:
@@ -510,7 +510,8 @@ def rule_cases():
 
 
 def evaluate_cases():
-    for sort, name, program, *more in calls("cases", "evaluate_cases.rt", "tried", "long", "medium", "passed"):
+    files = "verdict_cases.rt refusal_cases.rt pass_cases.rt"
+    for sort, name, program, *more in calls("cases", files, "tried", "long", "medium", "passed"):
         if sort == "tried":
             trace, n, lent, content = more
             table = [content] * lent

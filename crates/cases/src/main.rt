@@ -1,9 +1,12 @@
 // Runs the cases of document 01 that are executed and not proved, and prints what came out. The gate
 // compares it with the file stdout.
-mod evaluate_cases;
+mod evaluating;
+mod pass_cases;
+mod refusal_cases;
 mod ring_cases;
 mod rule_cases;
 mod text;
+mod verdict_cases;
 
 fn main() {
     ring_cases::lengths();
@@ -18,8 +21,7 @@ fn main() {
     rule_cases::nodes();
     rule_cases::priorities();
     rule_cases::depths();
-    evaluate_cases::verdicts();
-    evaluate_cases::refusals();
-    evaluate_cases::passes();
-    evaluate_cases::longest();
+    verdict_cases::all();
+    refusal_cases::all();
+    pass_cases::all();
 }

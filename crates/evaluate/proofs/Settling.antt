@@ -1,10 +1,11 @@
 -- What a settled evaluation comes to:
---   program-is                               the program that the bytes are read as
---   trace-short, settled-within              the trace fits its array, main's cell lies within the table
---   settled-covered, settled-ends            the functions have their cells within the table, and the passes end
---   settled-table, settled-left              what all passes leave
---   settled-passes, settled-verdict          how many they are, and what they decide
---   settled-pass, settled-stored             what one pass leaves and stores
+--   program-is          the program that the bytes are read as
+--   trace-short         the trace fits its place among the words
+--   settled-covered     the functions have their cells within the table
+--   settled-ends        the same in a cleared table, and the passes end there
+--   settled-within      main's cell lies within the table that all passes leave
+--   settled-verdict     what all passes decide and leave
+--   settled-pass        what one pass stores and leaves
 use Prim.Native.Nat.{ℕ, _<_, _≤_}
 use native.Mathlib.Omega.{arith}
 use mathlib.Core.Path.{_≡_, ap, _∙_}
@@ -24,8 +25,9 @@ use Rattle.rule.specs.Reading.{programFrom}
 use Rattle.rule.proofs.Programs.{read-encoded}
 use Rattle.fixpoint.specs.declared.setup.Cells.{Cells}
 use Rattle.evaluate.specs.Evaluate.{programIn}
-use Rattle.fixpoint.specs.Mirror.{Setup, setup, endsDown, passVisits, passCounts, tableFrom, passesFrom, mostPasses, Covered, Ends}
+use Rattle.fixpoint.specs.Mirror.{Setup, setupIn, endsDown, passVisits, passCounts, tableFrom, passesFrom, mostPasses, Covered, Ends}
 use Rattle.evaluate.specs.Settled.{Settled}
+use Rattle.fixpoint.proofs.WordsPut.{Parts}
 use Rattle.fixpoint.proofs.PassMeaning.{Runs, covered, pass-means, counts-mean}
 use Rattle.fixpoint.proofs.FinalMeaning.{ends-mean, table-means, passes-mean}
 use Rattle.fixpoint.proofs.RunsMeaning.{runs}
@@ -58,63 +60,59 @@ module _ {bytes trace : List ℕ} {n : ℕ} {layout : Layout} {places : Cells} {
   unfolding finalTable
   final-below = omega (arith, length-after (u .program) Bits (passCount (u .program) Bits), main-below)
 
-  -- the cells beyond the needed ones
-  abbrev Rest : List ℕ → List ℕ
-  Rest T₀ = drop (places .total) T₀
+  pub settled-covered : (len : ℕ) → lent ≤ len → Covered (places .functions) n (layout .functions) len
+  settled-covered len h =
+      rw (u .first, functions-are)
+      (rw (length-samples trace n) at (covered (u .program) Bits bytes _ _ (runs (u .accepted) trace n (u .few) (u .fits)) len (omega (arith, u .room, h))))
 
-  module _ (T₀ : List ℕ) where
-    pub settled-within : {T′ : List ℕ} → T′ ≡ finalTable (u .program) Bits ++ Rest T₀ → n < length T′
-    settled-within r = omega (arith, ap length r, length-append (finalTable (u .program) Bits) (Rest T₀), final-below)
-
-    pub settled-left : {T′ : List ℕ} → T′ ≡ finalTable (u .program) Bits ++ Rest T₀
-        → T′ ≡ finalTable (programIn (programFrom bytes)) Bits ++ drop (cells Bits (programIn (programFrom bytes))) T₀
-    settled-left r = rw program-is (rw (u .total) at r)
-
-    pub settled-verdict : {T′ : List ℕ} {d : Decision} {k : ℕ} → T′ ≡ finalTable (u .program) Bits ++ Rest T₀ → d ≡ mainDecision (getD T′ n 0) → k ≡ passCount (u .program) Bits
-        → record { decision = d; passes = k } ≡ verdictOf (programIn (programFrom bytes)) Bits
-    unfolding verdictOf
-    settled-verdict {T′} r q k =
-        let final = finalTable (u .program) Bits in
-        let at : getD T′ n 0 ≡ getD final (length Bits) 0 = rw (r, length-samples trace n) (List·getD-append final (Rest T₀) 0 n final-below) in
-        rw program-is (simp (q, at, k))
-
-  module _ {code ends copy : List ℕ} (c : code ≡ padded 4096 0 bytes) (e : ends ≡ endsDown code (layout .params) (length bytes) 0 (replicate 4096 0)) (s : copy ≡ padded 512 0 trace) where
+  -- the words are those of the program and the trace
+  module _ (words : List ℕ) (w : Parts words (padded 4096 0 bytes) (endsDown (padded 4096 0 bytes) (layout .params) (length bytes) 0 (replicate 4096 0)) (padded 512 0 trace)) where
     abbrev S : Setup
-    S = setup code ends (places .functions) copy
+    S = setupIn words (places .functions)
 
     run-here : Runs (u .program) Bits bytes S (layout .starts)
-    run-here = rw (e, c, s, u .first, u .laid) (runs (u .accepted) trace n (u .few) (u .fits))
+    run-here = rw (w .0, w .1 .0, w .1 .1, u .first, u .laid) (runs (u .accepted) trace n (u .few) (u .fits))
 
-    pub settled-covered : (len : ℕ) → lent ≤ len → Covered (places .functions) n (layout .functions) len
-    settled-covered len h =
-        rw functions-are (rw (length-samples trace n) at (covered (u .program) Bits bytes S (layout .starts) run-here len (omega (arith, u .room, h))))
+    -- the needed cells are cleared, those beyond keep their content
+    module _ (T₀ : List ℕ) {T : List ℕ} (z : T ≡ replicate (places .total) 0 ++ drop (places .total) T₀) where
+      abbrev Rest : List ℕ
+      Rest = drop (places .total) T₀
 
-    module _ (T₀ : List ℕ) where
-      abbrev Zeroed : List ℕ
-      Zeroed = replicate (places .total) 0 ++ Rest T₀
+      cleared : T ≡ replicate (cells Bits (u .program)) 0 ++ Rest
+      cleared = z ∙ ap (λ (k : ℕ). replicate k 0 ++ Rest) (u .total)
 
-      zeroed : Zeroed ≡ replicate (cells Bits (u .program)) 0 ++ Rest T₀
-      zeroed = ap (λ (k : ℕ). replicate k 0 ++ Rest T₀) (u .total)
+      cleared-length : length T₀ ≤ length T
+      cleared-length = omega (arith, ap length z, length-append (replicate (places .total) 0) Rest, length-replicate {A = ℕ} (places .total) 0, length-drop (places .total) T₀)
 
-      pub settled-length : {T : List ℕ} → T ≡ Zeroed → length T₀ ≤ length T
-      settled-length q = omega (arith, ap length q, length-append (replicate (places .total) 0) (Rest T₀), length-replicate {A = ℕ} (places .total) 0, length-drop (places .total) T₀)
+      pub settled-ends : lent ≤ length T₀ → Covered (places .functions) n (layout .functions) (length T) × Ends S n (layout .starts) (layout .functions) mostPasses T
+      settled-ends h = (
+        settled-covered (length T) (omega (arith, cleared-length, h)),
+        rw (cleared, functions-are) (rw (length-samples trace n) at (ends-mean (u .program) Bits bytes S (layout .starts) run-here Rest)),
+      )
 
-      pub settled-ends : {T : List ℕ} → T ≡ Zeroed → Ends S n (layout .starts) (layout .functions) mostPasses T
-      settled-ends q =
-          rw (q ∙ zeroed, functions-are)
-          (rw (length-samples trace n) at (ends-mean (u .program) Bits bytes S (layout .starts) run-here (Rest T₀)))
+      module _ {T′ : List ℕ} {k : ℕ} (r : (T′ ≡ tableFrom S n (layout .starts) (layout .functions) mostPasses T) × (k ≡ passesFrom S n (layout .starts) (layout .functions) mostPasses T)) where
+        left : T′ ≡ finalTable (u .program) Bits ++ Rest
+        left = r .0 ∙ rw (cleared, functions-are) (rw (length-samples trace n) at (table-means (u .program) Bits bytes S (layout .starts) run-here Rest))
 
-      pub settled-table : {T T′ : List ℕ} → T ≡ Zeroed → T′ ≡ tableFrom S n (layout .starts) (layout .functions) mostPasses T → T′ ≡ finalTable (u .program) Bits ++ Rest T₀
-      settled-table q r =
-          r ∙ rw (q ∙ zeroed, functions-are) (rw (length-samples trace n) at (table-means (u .program) Bits bytes S (layout .starts) run-here (Rest T₀)))
+        made : k ≡ passCount (u .program) Bits
+        made = r .1 ∙ rw (cleared, functions-are) (rw (length-samples trace n) at (passes-mean (u .program) Bits bytes S (layout .starts) run-here Rest))
 
-      pub settled-passes : {T : List ℕ} {k : ℕ} → T ≡ Zeroed → k ≡ passesFrom S n (layout .starts) (layout .functions) mostPasses T → k ≡ passCount (u .program) Bits
-      settled-passes q r =
-          r ∙ rw (q ∙ zeroed, functions-are) (rw (length-samples trace n) at (passes-mean (u .program) Bits bytes S (layout .starts) run-here (Rest T₀)))
+        pub settled-within : n < length T′
+        settled-within = omega (arith, ap length left, length-append (finalTable (u .program) Bits) Rest, final-below)
 
-    module _ (T : List ℕ) where
-      pub settled-pass : {T′ : List ℕ} → T′ ≡ passVisits S n (layout .starts) (layout .functions) T → T′ ≡ pass (programIn (programFrom bytes)) Bits T
-      settled-pass r = r ∙ rw (program-is, functions-are) (rw (length-samples trace n) at (pass-means (u .program) Bits bytes S (layout .starts) run-here T))
+        main-cell : getD T′ n 0 ≡ getD (finalTable (u .program) Bits) (length Bits) 0
+        main-cell = rw (left, length-samples trace n) (List·getD-append (finalTable (u .program) Bits) Rest 0 n final-below)
 
-      pub settled-stored : {k : ℕ} → k ≡ passCounts S n (layout .starts) (layout .functions) T → k ≡ passStores (programIn (programFrom bytes)) Bits T
-      settled-stored r = r ∙ rw (program-is, functions-are) (rw (length-samples trace n) at (counts-mean (u .program) Bits bytes S (layout .starts) run-here T))
+        pub settled-verdict : {d : Decision} → d ≡ mainDecision (getD T′ n 0)
+            → (record { decision = d; passes = k } ≡ verdictOf (programIn (programFrom bytes)) Bits)
+            × (T′ ≡ finalTable (programIn (programFrom bytes)) Bits ++ drop (cells Bits (programIn (programFrom bytes))) T₀)
+        unfolding verdictOf
+        settled-verdict q = (rw program-is (simp (q, main-cell, made)), rw program-is (rw (u .total) at left))
+
+    pub settled-pass : (T : List ℕ) {T′ : List ℕ} {k : ℕ}
+        → (T′ ≡ passVisits S n (layout .starts) (layout .functions) T) × (k ≡ passCounts S n (layout .starts) (layout .functions) T)
+        → (k ≡ passStores (programIn (programFrom bytes)) Bits T) × (T′ ≡ pass (programIn (programFrom bytes)) Bits T)
+    settled-pass T r = (
+      r .1 ∙ rw (program-is, functions-are) (rw (length-samples trace n) at (counts-mean (u .program) Bits bytes S (layout .starts) run-here T)),
+      r .0 ∙ rw (program-is, functions-are) (rw (length-samples trace n) at (pass-means (u .program) Bits bytes S (layout .starts) run-here T)),
+    )

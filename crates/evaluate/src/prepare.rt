@@ -99,21 +99,14 @@ pub fn decide(
     ensures verdict { λ r. ⌜ r ≡ verdictOf (programIn (programFrom (now (program .entry)))) (samples (now (trace .entry)) n) ⌝ }
     ensures cells { λ _. ⌜ now (table .exit) ≡ finalTable (programIn (programFrom (now (program .entry)))) (samples (now (trace .entry)) n) ++ drop (cells (samples (now (trace .entry)) n) (programIn (programFrom (now (program .entry))))) (now (table .entry)) ⌝ }
 {
-    let params = layout.params;
-    let starts = layout.starts;
-    let functions = places.functions;
-    let code = setup::program_array(program);
-    let ends = setup::expression_ends(&code, &params, program.len());
-    let samples = setup::trace_array(trace);
+    let words = setup::words_of(program, &layout.params, trace);
     passes::clear(table, places.total as usize);
     let passes = passes::run(
-        &code,
-        &ends,
-        &functions,
-        &samples,
+        &words,
+        &places.functions,
         table,
         n,
-        &starts,
+        &layout.starts,
         layout.functions,
     );
     Verdict {
@@ -135,20 +128,13 @@ pub fn pass_once(
     ensures stored { λ r. ⌜ r ≡ passStores (programIn (programFrom (now (program .entry)))) (samples (now (trace .entry)) n) (now (table .entry)) ⌝ }
     ensures cells { λ _. ⌜ now (table .exit) ≡ pass (programIn (programFrom (now (program .entry)))) (samples (now (trace .entry)) n) (now (table .entry)) ⌝ }
 {
-    let params = layout.params;
-    let starts = layout.starts;
-    let functions = places.functions;
-    let code = setup::program_array(program);
-    let ends = setup::expression_ends(&code, &params, program.len());
-    let samples = setup::trace_array(trace);
+    let words = setup::words_of(program, &layout.params, trace);
     passes::pass(
-        &code,
-        &ends,
-        &functions,
-        &samples,
+        &words,
+        &places.functions,
         table,
         n,
-        &starts,
+        &layout.starts,
         layout.functions,
     )
 }

@@ -53,25 +53,27 @@ module _ (S : Setup) (table env : List ℕ) (d at : ℕ) where
       go zero = refl
       go (suc d) = simp (le-leb _ _ h)
 
-  pub eval-node : at < 4096 → (d ≡ 0 → ⊥) → {k : Node} → nodeOf (getD (S .code) at 0) ≡ k → evalAt S table env d at ≡ nodeBy S table env (evalAt S table env (d - 1)) (at + 1) k
-  unfolding evalAt
-  eval-node h e {k} q = go d e
-    where
-      go : (d : ℕ) → (d ≡ 0 → ⊥) → evalAt S table env d at ≡ nodeBy S table env (evalAt S table env (d - 1)) (at + 1) k
-      go zero e = absurd (e refl)
-      go (suc d) e = simp (lt-leb _ _ h, q, sub-one)
+  -- a byte b that the code read at the place
+  module _ (h : at < 4096) (e : d ≡ 0 → ⊥) {b : ℕ} (r : b ≡ getD (S .code) at 0) where
+    pub eval-node : {k : Node} → nodeOf b ≡ k → evalAt S table env d at ≡ nodeBy S table env (evalAt S table env (d - 1)) (at + 1) k
+    unfolding evalAt
+    eval-node {k} q = go d e
+      where
+        go : (d : ℕ) → (d ≡ 0 → ⊥) → evalAt S table env d at ≡ nodeBy S table env (evalAt S table env (d - 1)) (at + 1) k
+        go zero e = absurd (e refl)
+        go (suc d) e = simp (lt-leb _ _ h, sym r, q, sub-one)
 
-  pub eval-param : at < 4096 → (d ≡ 0 → ⊥) → 0x10 ≤ getD (S .code) at 0 → getD (S .code) at 0 < 0x14 → evalAt S table env d at ≡ paramAt env (getD (S .code) at 0 - 0x10)
-  eval-param h e l m = eval-node h e (param-byte _ l m)
+    pub eval-param : 0x10 ≤ b → b < 0x14 → evalAt S table env d at ≡ paramAt env (b - 0x10)
+    eval-param l m = eval-node (param-byte b l m)
 
-  pub eval-head : at < 4096 → (d ≡ 0 → ⊥) → getD (S .code) at 0 ≡ 0x20 → {v : ℕ} → v ≡ evalAt S table env (d - 1) (at + 1) → evalAt S table env d at ≡ headOf (S .trace) (getD env 4 0) v
-  eval-head h e q o = eval-node h e (ap nodeOf q ∙ node-op hd) ∙ ap (λ (w : ℕ). headOf (S .trace) (getD env 4 0) w) (sym o)
+    pub eval-head : b ≡ 0x20 → {v : ℕ} → v ≡ evalAt S table env (d - 1) (at + 1) → evalAt S table env d at ≡ headOf (S .trace) (getD env 4 0) v
+    eval-head q o = eval-node (ap nodeOf q ∙ node-op hd) ∙ ap (λ (w : ℕ). headOf (S .trace) (getD env 4 0) w) (sym o)
 
-  pub eval-tail : at < 4096 → (d ≡ 0 → ⊥) → getD (S .code) at 0 ≡ 0x21 → {v : ℕ} → v ≡ evalAt S table env (d - 1) (at + 1) → evalAt S table env d at ≡ tailOf v
-  eval-tail h e q o = eval-node h e (ap nodeOf q ∙ node-op tl) ∙ ap (λ (w : ℕ). tailOf w) (sym o)
+    pub eval-tail : b ≡ 0x21 → {v : ℕ} → v ≡ evalAt S table env (d - 1) (at + 1) → evalAt S table env d at ≡ tailOf v
+    eval-tail q o = eval-node (ap nodeOf q ∙ node-op tl) ∙ ap (λ (w : ℕ). tailOf w) (sym o)
 
-  pub eval-null : at < 4096 → (d ≡ 0 → ⊥) → getD (S .code) at 0 ≡ 0x22 → {v : ℕ} → v ≡ evalAt S table env (d - 1) (at + 1) → evalAt S table env d at ≡ nullOf v
-  eval-null h e q o = eval-node h e (ap nodeOf q ∙ node-op null) ∙ ap (λ (w : ℕ). nullOf w) (sym o)
+    pub eval-null : b ≡ 0x22 → {v : ℕ} → v ≡ evalAt S table env (d - 1) (at + 1) → evalAt S table env d at ≡ nullOf v
+    eval-null q o = eval-node (ap nodeOf q ∙ node-op null) ∙ ap (λ (w : ℕ). nullOf w) (sym o)
 
   pub branch-true : {v m : ℕ} → v ≡ evalAt S table env d at → m ≡ endAt (S .ends) at → v ≡ 2 → branchAt S table env d at ≡ evalAt S table env d m
   unfolding branchAt

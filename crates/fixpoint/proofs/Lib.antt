@@ -4,6 +4,8 @@ pub mod CodeMeaning
 pub mod PlaceMeaning
 pub mod CallMeaning
 pub mod EvalMeaning
+pub mod Words
+pub mod WordsPut
 pub mod SetupLoops
 pub mod EvalWays
 pub mod PassWays

@@ -1,7 +1,6 @@
 -- Laws of setting up, for each loop of the code its start, a turn, its end:
---   copy-start, copy-more, copy-whole                  an array that a list is copied into
 --   operands-start, operands-more, operands-whole      the operands of a node, passed one after the other
---   ends-start, ends-more, ends-whole                  the ends, from the last place down
+--   Ended, ended-start, ended-more, ended-whole        the ends, from the last place down
 --   radix-bound, radix-pos                             how many values a kind has
 --   Product, size-start, size-more, size-fits,
 --   size-whole                                         the product of the sizes of parameters, from the last down
@@ -10,41 +9,20 @@
 --   listed-whole                                       the array of functions and the total
 use mathlib.Core.Path.{_≡_, refl, sym, ap, _∙_}
 use mathlib.Core.Bool.{Bool, true, false}
-use mathlib.Core.List.{List, []}
+use mathlib.Core.List.{List}
 use Prim.Native.Nat.{ℕ, zero, suc, _+_, _-_, _*_, _/_, _%_, _^_, _<_, _≤_}
 use native.Mathlib.Nat.{mod-lt, mul-le-mul, pow-succ', pow-le-pow-right}
 use native.Mathlib.Numerals.{add-one, sub-one}
 use native.Mathlib.Omega.{arith}
 use lib.Dec.{ltb}
-use lib.ListN.{length, getD, set, take, replicate}
-use lib.Seq.{length-take-le, take-all, take-suc}
+use lib.ListN.{getD, set, replicate}
 use borrow.Author.Tests.{ltb-true}
 use Rattle.trace.specs.{bitOf}
 use Rattle.semantics.specs.Table.{pick}
 use Rattle.rule.specs.declared.Node.{Node}
-use Rattle.rule.specs.Form.{padded}
 use Rattle.rule.specs.Reading.{nodeOf}
-use Rattle.rule.proofs.Padded.{set-padded}
-use Rattle.fixpoint.specs.Mirror.{radixOf, sizeFrom, valueCode, valuesInto, endAt, endsAfter, operandsOf, endBy, endsDown, totalBefore, functionsUpto, few}
-
--- ---- Copying
-
-pub copy-start : (N : ℕ) → replicate {A = ℕ} N 0 ≡ padded N 0 []
-unfolding padded
-copy-start N = let e : N ≡ N - 0 = omega arith in ap (λ (k : ℕ). replicate {A = ℕ} k 0) e
-
-pub copy-more : (N : ℕ) (l : List ℕ) (i : ℕ) {m : List ℕ} → m ≡ padded N 0 (take i l) → i < length l → length l ≤ N
-    → set m i (getD l i 0) ≡ padded N 0 (take (i + 1) l)
-copy-more N l i {m} e h fits =
-    let v = getD l i 0 in
-    let n : length (take i l) ≡ i = length-take-le i l (omega arith) in
-    ap (λ (a : List ℕ). set a i v) e
-    ∙ ap (λ (k : ℕ). set (padded N 0 (take i l)) k v) (sym n)
-    ∙ set-padded N 0 (take i l) v (omega (arith, n))
-    ∙ ap (padded N 0) (sym (take-suc l i 0 h) ∙ ap (λ (k : ℕ). take k l) (sym (add-one i)))
-
-pub copy-whole : (N : ℕ) (l : List ℕ) (i : ℕ) {m : List ℕ} → m ≡ padded N 0 (take i l) → length l ≤ i → m ≡ padded N 0 l
-copy-whole N l i e h = e ∙ ap (padded N 0) (take-all i l h)
+use Rattle.fixpoint.specs.Mirror.{bytesIn, endsIn, traceIn, radixOf, sizeFrom, valueCode, valuesInto, endAt, endsAfter, operandsOf, endBy, endsDown, totalBefore, functionsUpto, few}
+use Rattle.fixpoint.proofs.WordsPut.{Parts, bytes-kept, ends-set, trace-kept}
 
 -- ---- Ends
 
@@ -65,11 +43,11 @@ operands-whole ends zero place e h = e
 operands-whole ends (suc left) place e h = absurd (omega arith)
 
 module _ (code params z : List ℕ) (len : ℕ) where
-  pub ends-start : z ≡ endsDown code params (len - len) len z
+  ends-start : z ≡ endsDown code params (len - len) len z
   unfolding endsDown
   ends-start = let e : len - len ≡ 0 = omega arith in rw e
 
-  pub ends-more : (at : ℕ) {ends : List ℕ} {end : ℕ} → ends ≡ endsDown code params (len - at) at z → 0 < at → at ≤ len → end ≡ endBy code params ends (at - 1)
+  ends-more : (at : ℕ) {ends : List ℕ} {end : ℕ} → ends ≡ endsDown code params (len - at) at z → 0 < at → at ≤ len → end ≡ endBy code params ends (at - 1)
       → set ends (at - 1) end ≡ endsDown code params (len - (at - 1)) (at - 1) z
   unfolding endsDown
   ends-more zero e h l n = absurd (omega arith)
@@ -77,9 +55,34 @@ module _ (code params z : List ℕ) (len : ℕ) where
       let k : len - at ≡ suc (len - suc at) = omega arith in
       simp (sub-one, k, add-one, n, e)
 
-  pub ends-whole : (at : ℕ) {ends : List ℕ} → ends ≡ endsDown code params (len - at) at z → at ≤ 0 → ends ≡ endsDown code params len 0 z
+  ends-whole : (at : ℕ) {ends : List ℕ} → ends ≡ endsDown code params (len - at) at z → at ≤ 0 → ends ≡ endsDown code params len 0 z
   ends-whole zero e h = let k : len - 0 ≡ len = omega arith in rw k at e
   ends-whole (suc at) e h = absurd (omega arith)
+
+module _ (params m : List ℕ) (len : ℕ) where
+  -- the ends at places at and up are written, and nothing else
+  pub record Ended (words : List ℕ) (at : ℕ) : Type 0 where
+    pub below : at ≤ len
+    pub bytes : bytesIn words ≡ bytesIn m
+    pub ends : endsIn words ≡ endsDown (bytesIn m) params (len - at) at (endsIn m)
+    pub trace : traceIn words ≡ traceIn m
+
+  pub ended-start : Ended m len
+  ended-start = record { below = omega arith; bytes = refl; ends = ends-start (bytesIn m) params (endsIn m) len; trace = refl }
+
+  pub ended-more : (words : List ℕ) (at : ℕ) {end : ℕ} → Ended words at → 0 < at → len ≤ 4096 → end ≡ endBy (bytesIn words) params (endsIn words) (at - 1)
+      → Ended (set words (4096 + (at - 1)) end) (at - 1)
+  ended-more words at {end} u h few n =
+      let inside : at - 1 < 4096 = omega (arith, u .below) in
+      record {
+        below = omega (arith, u .below);
+        bytes = bytes-kept words (at - 1) end ∙ u .bytes;
+        ends = ends-set words (at - 1) end inside ∙ ends-more (bytesIn m) params (endsIn m) len at (u .ends) h (u .below) (rw (u .bytes) at n);
+        trace = trace-kept words (at - 1) end inside ∙ u .trace;
+      }
+
+  pub ended-whole : (words : List ℕ) (at : ℕ) → Ended words at → at ≤ 0 → Parts words (bytesIn m) (endsDown (bytesIn m) params len 0 (endsIn m)) (traceIn m)
+  ended-whole words at u h = (u .bytes, (ends-whole (bytesIn m) params (endsIn m) len at (u .ends) h, u .trace))
 
 -- ---- Sizes
 

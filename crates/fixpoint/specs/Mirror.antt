@@ -4,9 +4,9 @@ use Prim.Native.Nat.{ℕ, zero, suc, _+_, _-_, _*_, _/_, _%_, _<_, _≤_}
 use mathlib.Core.Path.{_≡_}
 use mathlib.Core.Logic.{_⊎_}
 use mathlib.Core.Bool.{Bool, true}
-use mathlib.Core.List.{List, [], _∷_}
+use mathlib.Core.List.{List, [], _∷_, map}
 use lib.Dec.{ltb, leb, eqb}
-use lib.ListN.{getD, set, replicate}
+use lib.ListN.{getD, set, take, drop, replicate}
 use Rattle.trace.specs.{mostSamples, bitOf}
 use Rattle.semantics.specs.Table.{pick}
 use Rattle.rule.specs.declared.Node.{Node}
@@ -79,6 +79,21 @@ pub record Setup : Type 0 where
 
 abbrev pub setup : List ℕ → List ℕ → List ℕ → List ℕ → Setup
 setup code ends functions trace = record { code = code; ends = ends; functions = functions; trace = trace }
+
+-- The words of an evaluation: the program's bytes from 0 on, the ends of expressions from 4096 on, the trace's bytes from
+-- 8192 on. Of a word that has a byte of the program, the code takes the low eight bits.
+
+unfoldable pub bytesIn : List ℕ → List ℕ
+bytesIn words = map (λ w. w % 256) (take 4096 words)
+
+unfoldable pub endsIn : List ℕ → List ℕ
+endsIn words = take 4096 (drop 4096 words)
+
+unfoldable pub traceIn : List ℕ → List ℕ
+traceIn words = drop 8192 words
+
+abbrev pub setupIn : List ℕ → List ℕ → Setup
+setupIn words functions = setup (bytesIn words) (endsIn words) functions (traceIn words)
 
 abbrev pub firstOf : List ℕ → ℕ → ℕ
 firstOf functions g = getD functions g 0

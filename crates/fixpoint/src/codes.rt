@@ -1,13 +1,15 @@
 // Outcomes as the numbers that stand for them in a cell: 0 undecided, 1 False, 2 True, 3 and 4 the
 // errors, 5 + k a suffix of length k. Inside the evaluator an outcome is its number.
+use crate::setup;
+use crate::setup::WORDS;
 ghost use mathlib.Core.Path.{_≡_};
 ghost use Prim.Native.Nat.{_<_};
 ghost use Rattle.trace.specs.{bitOf};
-ghost use Rattle.fixpoint.specs.Mirror.{headOf, tailOf, nullOf, heldCode, digitCode, radixOf, nextIndex, sampleCode, few};
+ghost use Rattle.fixpoint.specs.Mirror.{traceIn, headOf, tailOf, nullOf, heldCode, digitCode, radixOf, nextIndex, sampleCode, few};
 
 // hd of what its operand gave. `n` is the length of the trace.
-pub fn head(trace: &[u8; 512], n: u16, operand: u16) -> u16
-    ensures { λ r. ⌜ r ≡ headOf (now (trace .entry)) n operand ⌝ }
+pub fn head(words: &[u16; WORDS], n: u16, operand: u16) -> u16
+    ensures { λ r. ⌜ r ≡ headOf (traceIn (now (words .entry))) n operand ⌝ }
 {
     if operand < 5 {
         return operand;
@@ -19,19 +21,19 @@ pub fn head(trace: &[u8; 512], n: u16, operand: u16) -> u16
     if n < length {
         return 0;
     }
-    sample(trace, n - length)
+    sample(words, n - length)
 }
 
 // Sample i of the trace as a number. Lent as a slice, an array tells the checker its length.
-fn sample(trace: &[u8; 512], i: u16) -> u16
-    ensures { λ r. ⌜ r ≡ sampleCode (now (trace .entry)) i ⌝ }
+fn sample(words: &[u16; WORDS], i: u16) -> u16
+    ensures { λ r. ⌜ r ≡ sampleCode (traceIn (now (words .entry))) i ⌝ }
 {
-    let bytes = &trace[..];
+    let all = &words[..];
     let at = (i / 8) as usize;
     if 512 <= at {
         return 1;
     }
-    if (bytes[at] >> (i % 8)) % 2 == 1 {
+    if (all[setup::TRACE + at] >> (i % 8)) % 2 == 1 {
         2
     } else {
         1

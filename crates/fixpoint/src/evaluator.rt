@@ -1,162 +1,168 @@
-// The outcome of an expression with calls looked up in the table. Program, expression ends, functions,
-// trace and parameter values stand in fixed arrays that are lent; an outcome is its number.
+// The outcome of an expression with calls looked up in the table. Program, expression ends and trace
+// stand in one lent array, functions and parameter values in others; an outcome is its number.
 use crate::codes;
+use crate::setup;
+use crate::setup::ENDS;
+use crate::setup::WORDS;
 use rule::Node;
 ghost use mathlib.Core.Path.{_≡_};
 ghost use Prim.Native.Nat.{_<_};
-ghost use Rattle.fixpoint.specs.Mirror.{setup, evalAt, branchAt, callAt, endAt, paramAt, lookupAt};
+ghost use Rattle.fixpoint.specs.Mirror.{setupIn, evalAt, branchAt, callAt, paramAt, lookupAt};
 
 // The number of the outcome of the expression at a place, 0 where it is undecided. `env` has the numbers
 // of the parameter values, and at 4 the length of the trace.
 pub fn outcome(
-    code: &[u8; 4096],
-    ends: &[u16; 4096],
+    words: &[u16; WORDS],
     functions: &[u64; 96],
-    trace: &[u8; 512],
     table: &[u16],
     env: &[u16; 5],
     depth: u8,
     at: usize,
 ) -> u16
-    ensures { λ r. ⌜ r ≡ evalAt (setup (now (code .entry)) (now (ends .entry)) (now (functions .entry)) (now (trace .entry))) (now (table .entry)) (now (env .entry)) depth at ⌝ }
+    ensures { λ r. ⌜ r ≡ evalAt (setupIn (now (words .entry)) (now (functions .entry))) (now (table .entry)) (now (env .entry)) depth at ⌝ }
 {
-    eval(code, ends, functions, trace, &table, env, depth, at)
+    eval(words, functions, &table, env, depth, at)
 }
 
 // As outcome. The table is a reference to its slice: it goes from call to call as one word.
 fn eval(
-    code: &[u8; 4096],
-    ends: &[u16; 4096],
+    words: &[u16; WORDS],
     functions: &[u64; 96],
-    trace: &[u8; 512],
     table: &&[u16],
     env: &[u16; 5],
     depth: u8,
     at: usize,
 ) -> u16
-    ensures { λ r. ⌜ r ≡ evalAt (setup (now (code .entry)) (now (ends .entry)) (now (functions .entry)) (now (trace .entry))) (now (now (table .entry))) (now (env .entry)) depth at ⌝ }
+    ensures { λ r. ⌜ r ≡ evalAt (setupIn (now (words .entry)) (now (functions .entry))) (now (now (table .entry))) (now (env .entry)) depth at ⌝ }
 {
     if depth == 0 {
         return 0;
     }
-    if 4096 <= at {
+    if ENDS <= at {
         return 0;
     }
+    node(words, functions, table, env, depth, at)
+}
+
+// As eval, where depth is left and the place has a byte.
+fn node(
+    words: &[u16; WORDS],
+    functions: &[u64; 96],
+    table: &&[u16],
+    env: &[u16; 5],
+    depth: u8,
+    at: usize,
+) -> u16
+    requires { ⌜ (depth ≡ 0 → ⊥) × (at < 4096) ⌝ }
+    ensures { λ r. ⌜ r ≡ evalAt (setupIn (now (words .entry)) (now (functions .entry))) (now (now (table .entry))) (now (env .entry)) depth at ⌝ }
+{
     let left = depth - 1;
     let next = at + 1;
-    match rule::node_of(code[at]) {
+    match rule::node_of(setup::byte_at(words, at)) {
         Node::False => 1,
         Node::True => 2,
         Node::Empty => 5,
         Node::Param(i) => param(env, i),
         Node::Head => codes::head(
-            trace,
+            words,
             env[4],
-            operand(code, ends, functions, trace, table, env, left, next),
+            operand(words, functions, table, env, left, next),
         ),
-        Node::Tail => codes::tail(operand(code, ends, functions, trace, table, env, left, next)),
-        Node::Null => codes::null(operand(code, ends, functions, trace, table, env, left, next)),
-        Node::If => branch(code, ends, functions, trace, table, env, left, next),
+        Node::Tail => codes::tail(operand(words, functions, table, env, left, next)),
+        Node::Null => codes::null(operand(words, functions, table, env, left, next)),
+        Node::If => branch(words, functions, table, env, left, next),
         Node::Cons => 0,
-        Node::Call(g) => call(code, ends, functions, trace, table, env, left, next, g),
+        Node::Call(g) => call(words, functions, table, env, left, next, g),
         Node::Unknown => 0,
     }
 }
 
 // As eval; a parameter is read at once.
 fn operand(
-    code: &[u8; 4096],
-    ends: &[u16; 4096],
+    words: &[u16; WORDS],
     functions: &[u64; 96],
-    trace: &[u8; 512],
     table: &&[u16],
     env: &[u16; 5],
     depth: u8,
     at: usize,
 ) -> u16
-    ensures { λ r. ⌜ r ≡ evalAt (setup (now (code .entry)) (now (ends .entry)) (now (functions .entry)) (now (trace .entry))) (now (now (table .entry))) (now (env .entry)) depth at ⌝ }
+    ensures { λ r. ⌜ r ≡ evalAt (setupIn (now (words .entry)) (now (functions .entry))) (now (now (table .entry))) (now (env .entry)) depth at ⌝ }
 {
     if depth == 0 {
         return 0;
     }
-    if 4096 <= at {
+    if ENDS <= at {
         return 0;
     }
-    let byte = code[at];
-    if 16 <= byte {
-        if byte < 20 {
-            return param(env, byte - 16);
+    let code = setup::byte_at(words, at);
+    if 16 <= code {
+        if code < 20 {
+            return param(env, code - 16);
         }
     }
-    eval(code, ends, functions, trace, table, env, depth, at)
+    node(words, functions, table, env, depth, at)
 }
 
 // As eval; hd, tl and null are taken at once.
 fn simple(
-    code: &[u8; 4096],
-    ends: &[u16; 4096],
+    words: &[u16; WORDS],
     functions: &[u64; 96],
-    trace: &[u8; 512],
     table: &&[u16],
     env: &[u16; 5],
     depth: u8,
     at: usize,
 ) -> u16
-    ensures { λ r. ⌜ r ≡ evalAt (setup (now (code .entry)) (now (ends .entry)) (now (functions .entry)) (now (trace .entry))) (now (now (table .entry))) (now (env .entry)) depth at ⌝ }
+    ensures { λ r. ⌜ r ≡ evalAt (setupIn (now (words .entry)) (now (functions .entry))) (now (now (table .entry))) (now (env .entry)) depth at ⌝ }
 {
     if depth == 0 {
         return 0;
     }
-    if 4096 <= at {
+    if ENDS <= at {
         return 0;
     }
-    let byte = code[at];
+    let code = setup::byte_at(words, at);
     let left = depth - 1;
     let next = at + 1;
-    if byte == 32 {
+    if code == 32 {
         return codes::head(
-            trace,
+            words,
             env[4],
-            operand(code, ends, functions, trace, table, env, left, next),
+            operand(words, functions, table, env, left, next),
         );
     }
-    if byte == 33 {
-        return codes::tail(operand(code, ends, functions, trace, table, env, left, next));
+    if code == 33 {
+        return codes::tail(operand(words, functions, table, env, left, next));
     }
-    if byte == 34 {
-        return codes::null(operand(code, ends, functions, trace, table, env, left, next));
+    if code == 34 {
+        return codes::null(operand(words, functions, table, env, left, next));
     }
-    operand(code, ends, functions, trace, table, env, depth, at)
+    operand(words, functions, table, env, depth, at)
 }
 
 // A condition, and the branch that it chooses; the other is stepped over.
 fn branch(
-    code: &[u8; 4096],
-    ends: &[u16; 4096],
+    words: &[u16; WORDS],
     functions: &[u64; 96],
-    trace: &[u8; 512],
     table: &&[u16],
     env: &[u16; 5],
     depth: u8,
     at: usize,
 ) -> u16
-    ensures { λ r. ⌜ r ≡ branchAt (setup (now (code .entry)) (now (ends .entry)) (now (functions .entry)) (now (trace .entry))) (now (now (table .entry))) (now (env .entry)) depth at ⌝ }
+    ensures { λ r. ⌜ r ≡ branchAt (setupIn (now (words .entry)) (now (functions .entry))) (now (now (table .entry))) (now (env .entry)) depth at ⌝ }
 {
-    let condition = simple(code, ends, functions, trace, table, env, depth, at);
-    let first = end(ends, at);
+    let condition = simple(words, functions, table, env, depth, at);
+    let first = setup::end_at(words, at) as usize;
     if condition == 2 {
-        return eval(code, ends, functions, trace, table, env, depth, first);
+        return eval(words, functions, table, env, depth, first);
     }
     if condition == 1 {
         return eval(
-            code,
-            ends,
+            words,
             functions,
-            trace,
             table,
             env,
             depth,
-            end(ends, first),
+            setup::end_at(words, first) as usize,
         );
     }
     condition
@@ -164,17 +170,15 @@ fn branch(
 
 // A call: its arguments left to right, then what the table holds for the callee on them.
 fn call(
-    code: &[u8; 4096],
-    ends: &[u16; 4096],
+    words: &[u16; WORDS],
     functions: &[u64; 96],
-    trace: &[u8; 512],
     table: &&[u16],
     env: &[u16; 5],
     depth: u8,
     at: usize,
     callee: u8,
 ) -> u16
-    ensures { λ r. ⌜ r ≡ callAt (setup (now (code .entry)) (now (ends .entry)) (now (functions .entry)) (now (trace .entry))) (now (now (table .entry))) (now (env .entry)) depth at callee ⌝ }
+    ensures { λ r. ⌜ r ≡ callAt (setupIn (now (words .entry)) (now (functions .entry))) (now (now (table .entry))) (now (env .entry)) depth at callee ⌝ }
 {
     if 32 <= callee {
         return 0;
@@ -187,7 +191,7 @@ fn call(
     let mut place = at;
     let mut i: u64 = 0;
     while i < count {
-        let value = simple(code, ends, functions, trace, table, env, depth, place);
+        let value = simple(words, functions, table, env, depth, place);
         if value == 0 {
             return 0;
         }
@@ -202,7 +206,7 @@ fn call(
             codes::radix(codes::bit(kinds, i), n),
             codes::digit(value),
         );
-        place = end(ends, place);
+        place = setup::end_at(words, place) as usize;
         i += 1;
     }
     lookup(functions, table, n, g, index)
@@ -213,15 +217,6 @@ fn param(env: &[u16; 5], i: u8) -> u16
     ensures { λ r. ⌜ r ≡ paramAt (now (env .entry)) i ⌝ }
 {
     if i < 4 { env[i as usize] } else { 0 }
-}
-
-// The place after the expression at a place. Lent as a slice, an array tells the checker that an element
-// fits its type.
-fn end(ends: &[u16; 4096], at: usize) -> usize
-    ensures { λ r. ⌜ r ≡ endAt (now (ends .entry)) at ⌝ }
-{
-    let places = &ends[..];
-    if at < 4096 { places[at] as usize } else { 4096 }
 }
 
 // What the table holds for a configuration of a function.

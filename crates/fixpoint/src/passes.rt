@@ -2,31 +2,30 @@
 use crate::codes;
 use crate::evaluator;
 use crate::setup;
+use crate::setup::WORDS;
 ghost use mathlib.Core.Path.{_≡_};
 ghost use mathlib.Core.List.{_++_};
 ghost use Prim.Native.Nat.{_+_, _<_, _≤_};
 ghost use lib.ListN.{length, drop, replicate};
-ghost use Rattle.fixpoint.specs.Mirror.{setup, oneUnless, filledAt, filled, functionVisits, functionStores, sizeOf, passVisits, passCounts, tableFrom, passesFrom, mostPasses, Ready, Covered, Ends};
+ghost use Rattle.fixpoint.specs.Mirror.{setupIn, oneUnless, filledAt, filled, functionVisits, functionStores, sizeOf, passVisits, passCounts, tableFrom, passesFrom, mostPasses, Ready, Covered, Ends};
 
 // Passes until one stores nothing, and answers how many they were.
 pub fn run(
-    code: &[u8; 4096],
-    ends: &[u16; 4096],
+    words: &[u16; WORDS],
     functions: &[u64; 96],
-    trace: &[u8; 512],
     table: &mut [u16],
     n: u16,
     starts: &[u16; 32],
     count: u8,
 ) -> u32
     requires { ⌜ Covered (now functions) n count (length (now table)) ⌝ }
-    requires { ⌜ Ends (setup (now code) (now ends) (now functions) (now trace)) n (now starts) count mostPasses (now table) ⌝ }
-    ensures cells { λ _. ⌜ now (table .exit) ≡ tableFrom (setup (now (code .entry)) (now (ends .entry)) (now (functions .entry)) (now (trace .entry))) n (now (starts .entry)) count mostPasses (now (table .entry)) ⌝ }
-    ensures passes { λ r. ⌜ r ≡ passesFrom (setup (now (code .entry)) (now (ends .entry)) (now (functions .entry)) (now (trace .entry))) n (now (starts .entry)) count mostPasses (now (table .entry)) ⌝ }
+    requires { ⌜ Ends (setupIn (now words) (now functions)) n (now starts) count mostPasses (now table) ⌝ }
+    ensures cells { λ _. ⌜ now (table .exit) ≡ tableFrom (setupIn (now (words .entry)) (now (functions .entry))) n (now (starts .entry)) count mostPasses (now (table .entry)) ⌝ }
+    ensures passes { λ r. ⌜ r ≡ passesFrom (setupIn (now (words .entry)) (now (functions .entry))) n (now (starts .entry)) count mostPasses (now (table .entry)) ⌝ }
 {
     let mut done: u32 = 0;
     loop {
-        let stored = pass(code, ends, functions, trace, table, n, starts, count);
+        let stored = pass(words, functions, table, n, starts, count);
         done += 1;
         if stored == 0 {
             return done;
@@ -36,24 +35,22 @@ pub fn run(
 
 // One pass over the cells of so many functions: how many outcomes it stored.
 pub fn pass(
-    code: &[u8; 4096],
-    ends: &[u16; 4096],
+    words: &[u16; WORDS],
     functions: &[u64; 96],
-    trace: &[u8; 512],
     table: &mut [u16],
     n: u16,
     starts: &[u16; 32],
     count: u8,
 ) -> usize
     requires { ⌜ Covered (now functions) n count (length (now table)) ⌝ }
-    ensures cells { λ _. ⌜ now (table .exit) ≡ passVisits (setup (now (code .entry)) (now (ends .entry)) (now (functions .entry)) (now (trace .entry))) n (now (starts .entry)) count (now (table .entry)) ⌝ }
-    ensures stored { λ r. ⌜ r ≡ passCounts (setup (now (code .entry)) (now (ends .entry)) (now (functions .entry)) (now (trace .entry))) n (now (starts .entry)) count (now (table .entry)) ⌝ }
+    ensures cells { λ _. ⌜ now (table .exit) ≡ passVisits (setupIn (now (words .entry)) (now (functions .entry))) n (now (starts .entry)) count (now (table .entry)) ⌝ }
+    ensures stored { λ r. ⌜ r ≡ passCounts (setupIn (now (words .entry)) (now (functions .entry))) n (now (starts .entry)) count (now (table .entry)) ⌝ }
 {
     let last = count as usize;
     let mut stored: usize = 0;
     let mut g: usize = 0;
     while g < last {
-        stored += pass_function(code, ends, functions, trace, table, n, g, starts[g]);
+        stored += pass_function(words, functions, table, n, g, starts[g]);
         g += 1;
     }
     stored
@@ -62,18 +59,16 @@ pub fn pass(
 // Visits the configurations of a function in rising order: how many outcomes were stored. A decided cell
 // costs a load and a test.
 fn pass_function(
-    code: &[u8; 4096],
-    ends: &[u16; 4096],
+    words: &[u16; WORDS],
     functions: &[u64; 96],
-    trace: &[u8; 512],
     table: &mut [u16],
     n: u16,
     g: usize,
     start: u16,
 ) -> usize
     requires { ⌜ Ready (now functions) n g (length (now table)) ⌝ }
-    ensures cells { λ _. ⌜ now (table .exit) ≡ functionVisits (setup (now (code .entry)) (now (ends .entry)) (now (functions .entry)) (now (trace .entry))) n g start (sizeOf (now (functions .entry)) n g) (now (table .entry)) ⌝ }
-    ensures stored { λ r. ⌜ (r ≡ functionStores (setup (now (code .entry)) (now (ends .entry)) (now (functions .entry)) (now (trace .entry))) n g start (sizeOf (now (functions .entry)) n g) (now (table .entry))) × (r ≤ 281474976710656) ⌝ }
+    ensures cells { λ _. ⌜ now (table .exit) ≡ functionVisits (setupIn (now (words .entry)) (now (functions .entry))) n g start (sizeOf (now (functions .entry)) n g) (now (table .entry)) ⌝ }
+    ensures stored { λ r. ⌜ (r ≡ functionStores (setupIn (now (words .entry)) (now (functions .entry))) n g start (sizeOf (now (functions .entry)) n g) (now (table .entry))) × (r ≤ 281474976710656) ⌝ }
 {
     let kinds = functions[32 + g];
     let count = codes::at_most_four(functions[64 + g]);
@@ -84,7 +79,7 @@ fn pass_function(
     let mut i: usize = 0;
     while i < last {
         if codes::held(list, n, table[first + i]) == 0 {
-            stored += fill(code, ends, functions, trace, table, n, g, start, i);
+            stored += fill(words, functions, table, n, g, start, i);
         }
         i += 1;
     }
@@ -93,10 +88,8 @@ fn pass_function(
 
 // Takes the body of an undecided configuration and stores what is decided: 1 where an outcome was stored.
 fn fill(
-    code: &[u8; 4096],
-    ends: &[u16; 4096],
+    words: &[u16; WORDS],
     functions: &[u64; 96],
-    trace: &[u8; 512],
     table: &mut [u16],
     n: u16,
     g: usize,
@@ -104,8 +97,8 @@ fn fill(
     index: usize,
 ) -> usize
     requires { ⌜ Ready (now functions) n g (length (now table)) × (index < sizeOf (now functions) n g) ⌝ }
-    ensures cells { λ _. ⌜ now (table .exit) ≡ filled (setup (now (code .entry)) (now (ends .entry)) (now (functions .entry)) (now (trace .entry))) n g start (now (table .entry)) index ⌝ }
-    ensures stored { λ r. ⌜ r ≡ oneUnless (filledAt (setup (now (code .entry)) (now (ends .entry)) (now (functions .entry)) (now (trace .entry))) n g start (now (table .entry)) index) ⌝ }
+    ensures cells { λ _. ⌜ now (table .exit) ≡ filled (setupIn (now (words .entry)) (now (functions .entry))) n g start (now (table .entry)) index ⌝ }
+    ensures stored { λ r. ⌜ r ≡ oneUnless (filledAt (setupIn (now (words .entry)) (now (functions .entry))) n g start (now (table .entry)) index) ⌝ }
 {
     let kinds = functions[32 + g];
     let count = codes::at_most_four(functions[64 + g]);
@@ -113,10 +106,8 @@ fn fill(
     let mut env = [0, 0, 0, 0, n];
     setup::values(kinds, count, n, index as u64, &mut env);
     let outcome = evaluator::outcome(
-        code,
-        ends,
+        words,
         functions,
-        trace,
         table,
         &env,
         rule::MOST_DEPTH,

@@ -1,65 +1,74 @@
-// What is worked out once for an evaluation: program and trace in fixed arrays, where each expression
-// ends, where each function's cells begin; and the parameter values of a cell.
+// What is worked out once for an evaluation: program, expression ends and trace in one array of words,
+// where each function's cells begin; how the words are read; and the parameter values of a cell.
 use crate::codes;
 use rule::Node;
 ghost use mathlib.Core.Path.{_≡_};
-ghost use Prim.Native.Nat.{_<_, _≤_};
-ghost use lib.ListN.{length, replicate};
+ghost use Prim.Native.Nat.{_+_, _<_, _≤_};
+ghost use lib.ListN.{length, getD, replicate};
+ghost use lib.Seq.{paste};
 ghost use Rattle.rule.specs.Form.{padded};
-ghost use Rattle.fixpoint.specs.Mirror.{argumentsOf, operandsOf, endAt, endBy, endsDown, sizeFrom, totalBefore, functionsUpto, valuesInto, few};
+ghost use Rattle.fixpoint.specs.Mirror.{bytesIn, endsIn, traceIn, argumentsOf, operandsOf, endAt, endBy, endsDown, sizeFrom, totalBefore, functionsUpto, valuesInto};
 
-// The program, with zeros after it.
-pub fn program_array(program: &[u8]) -> [u8; 4096]
-    requires { ⌜ length (now program) ≤ 4096 ⌝ }
-    ensures { λ r. ⌜ r ≡ padded 4096 0 (now (program .entry)) ⌝ }
+// Where the ends of expressions begin in the words of an evaluation: after the longest program.
+pub const ENDS: usize = rule::MOST_BYTES;
+
+// Where the trace begins in them.
+pub const TRACE: usize = 8192;
+
+// How many words there are.
+pub const WORDS: usize = 8704;
+
+// The words of an evaluation: the program's bytes, from ENDS on where the expression that starts at each
+// byte ends, from TRACE on the trace's bytes; zeros after each.
+pub fn words_of(program: &[u8], params: &[u8; 32], trace: &[u8]) -> [u16; WORDS]
+    requires { ⌜ (length (now program) ≤ 4096) × (length (now trace) ≤ 512) ⌝ }
+    ensures bytes { λ r. ⌜ bytesIn r ≡ padded 4096 0 (now (program .entry)) ⌝ }
+    ensures ends { λ r. ⌜ endsIn r ≡ endsDown (padded 4096 0 (now (program .entry))) (now (params .entry)) (length (now (program .entry))) 0 (replicate 4096 0) ⌝ }
+    ensures trace { λ r. ⌜ traceIn r ≡ padded 512 0 (now (trace .entry)) ⌝ }
 {
-    let mut code = [0u8; 4096];
-    let mut i = 0;
-    while i < program.len() {
-        code[i] = program[i];
-        i += 1;
-    }
-    code
+    let mut words = [0u16; WORDS];
+    put(program, 0, &mut words);
+    put(trace, TRACE, &mut words);
+    put_ends(params, program.len(), &mut words);
+    words
 }
 
-// The trace, with zeros after it.
-pub fn trace_array(trace: &[u8]) -> [u8; 512]
-    requires { ⌜ length (now trace) ≤ 512 ⌝ }
-    ensures { λ r. ⌜ r ≡ padded 512 0 (now (trace .entry)) ⌝ }
+// Writes bytes into the words from a place on.
+fn put(bytes: &[u8], at: usize, words: &mut [u16; WORDS])
+    requires { ⌜ (at + length (now bytes) ≤ 8704) × (length (now words) ≡ 8704) ⌝ }
+    ensures { λ _. ⌜ now (words .exit) ≡ paste (now (words .entry)) at (now (bytes .entry)) (length (now (bytes .entry))) ⌝ }
 {
-    let mut copy = [0u8; 512];
     let mut i = 0;
-    while i < trace.len() {
-        copy[i] = trace[i];
+    while i < bytes.len() {
+        words[at + i] = bytes[i] as u16;
         i += 1;
     }
-    copy
 }
 
-// For every place of a program of so many bytes, where the expression that starts there ends. The places
-// are worked out from the last, each by the ends after it.
-pub fn expression_ends(code: &[u8; 4096], params: &[u8; 32], len: usize) -> [u16; 4096]
+// Writes where the expression that starts at each place of a program of so many bytes ends. The places are
+// worked out from the last, each by the ends after it.
+fn put_ends(params: &[u8; 32], len: usize, words: &mut [u16; WORDS])
     requires { ⌜ len ≤ 4096 ⌝ }
-    ensures { λ r. ⌜ r ≡ endsDown (now (code .entry)) (now (params .entry)) len 0 (replicate 4096 0) ⌝ }
+    ensures bytes { λ _. ⌜ bytesIn (now (words .exit)) ≡ bytesIn (now (words .entry)) ⌝ }
+    ensures ends { λ _. ⌜ endsIn (now (words .exit)) ≡ endsDown (bytesIn (now (words .entry))) (now (params .entry)) len 0 (endsIn (now (words .entry))) ⌝ }
+    ensures trace { λ _. ⌜ traceIn (now (words .exit)) ≡ traceIn (now (words .entry)) ⌝ }
 {
-    let mut ends = [0u16; 4096];
     let mut at = len;
     while 0 < at {
         at -= 1;
-        ends[at] = end_by(code, params, &ends, at as u16);
+        words[ENDS + at] = end_by(params, words, at);
     }
-    ends
 }
 
 // The end of the expression at a place, by the ends after it.
-fn end_by(code: &[u8; 4096], params: &[u8; 32], ends: &[u16; 4096], at: u16) -> u16
+fn end_by(params: &[u8; 32], words: &[u16; WORDS], at: usize) -> u16
     requires { ⌜ at < 4096 ⌝ }
-    ensures { λ r. ⌜ r ≡ endBy (now (code .entry)) (now (params .entry)) (now (ends .entry)) at ⌝ }
+    ensures { λ r. ⌜ r ≡ endBy (bytesIn (now (words .entry))) (now (params .entry)) (endsIn (now (words .entry))) at ⌝ }
 {
-    let mut left = operands(params, rule::node_of(code[at as usize]));
-    let mut place = at + 1;
+    let mut left = operands(params, rule::node_of(byte_at(words, at)));
+    let mut place = (at + 1) as u16;
     while 0 < left {
-        place = end_of(ends, place);
+        place = end_at(words, place as usize);
         left -= 1;
     }
     place
@@ -95,11 +104,19 @@ fn arguments(params: &[u8; 32], g: u8) -> u8
     if count < 5 { count } else { 4 }
 }
 
-fn end_of(ends: &[u16; 4096], at: u16) -> u16
-    ensures { λ r. ⌜ r ≡ endAt (now (ends .entry)) at ⌝ }
+// The byte of the program at a place.
+pub fn byte_at(words: &[u16; WORDS], at: usize) -> u8
+    requires { ⌜ at < 4096 ⌝ }
+    ensures { λ r. ⌜ r ≡ getD (bytesIn (now (words .entry))) at 0 ⌝ }
 {
-    let place = at as usize;
-    if place < 4096 { ends[place] } else { 4096 }
+    (words[at] % 256) as u8
+}
+
+// Where the expression at a place ends.
+pub fn end_at(words: &[u16; WORDS], at: usize) -> u16
+    ensures { λ r. ⌜ r ≡ endAt (endsIn (now (words .entry))) at ⌝ }
+{
+    if at < ENDS { words[ENDS + at] } else { 4096 }
 }
 
 // The functions of a program: first cells from 0 on, kinds bytes from 32 on, counts from 64 on; and the

@@ -35,7 +35,7 @@ use Rattle.record.specs.declared.Examined.{Examined}
 use Rattle.record.specs.Form.{Contents, samplesOf}
 use Rattle.record.specs.Reading.{partOf, contentsIn, trailerCheck, partsIn, readCheck, readBy}
 use Rattle.record.specs.Reading.{reading as readingOf}
-use Rattle.record.specs.Checking.{programOf, checkCheck, agrees, compared, checkedBy, checking, tableChecked, Holds, examining}
+use Rattle.record.specs.Checking.{programOf, recordCheck, agrees, compared, checkedBy, checking, tableChecked, Holds, examining}
 use Rattle.record.specs.Steps.{located, bothRefused, refusedBy}
 use Rattle.record.proofs.Answers.{evaluation-refused, evaluation-passed, located-refusal, located-passed, parts-are}
 use Rattle.refusal.proofs.Checks.{then-passed}
@@ -61,8 +61,8 @@ module _ (bytes : List ℕ) (passed : trailerCheck bytes ≡ Passed) where
       let size : length (c .trace) ≡ bytesFor (c .n) = length-part bytes _ _ (omega arith) ∙ omega arith in
       rw (le-ltb mostSamples (c .n) (f .few), eq-eqb (length (c .trace)) (bytesFor (c .n)) size)
 
-  pub check-is : (lent : ℕ) → checkCheck bytes lent ≡ evaluateCheck (c .program) (c .trace) (c .n) lent
-  unfolding checkCheck readCheck evaluateCheck programCheck
+  pub check-is : (lent : ℕ) → recordCheck bytes lent ≡ evaluateCheck (c .program) (c .trace) (c .n) lent
+  unfolding recordCheck readCheck evaluateCheck programCheck
   check-is lent = rw passed (judged (programFrom (c .program)) (c .trace) (c .n) lent trace-fits)
 
   pub table-is : (T : List ℕ) {T′ : List ℕ} → T′ ≡ tableEvaluated (c .program) (c .trace) (c .n) T → T′ ≡ tableChecked bytes T
@@ -74,7 +74,7 @@ module _ (bytes : List ℕ) (passed : trailerCheck bytes ≡ Passed) where
 -- a trailer that is refused
 pub refused-both : (bytes : List ℕ) (T : List ℕ) {f : Refusal} → trailerCheck bytes ≡ Refused f
     → (bothRefused f ≡ examining bytes (length T)) × (T ≡ tableChecked bytes T)
-unfolding examining readingOf checking tableChecked checkCheck readCheck
+unfolding examining readingOf checking tableChecked recordCheck readCheck
 refused-both bytes T e = (rw e, rw e)
 
 -- an answer in its two parts
@@ -88,14 +88,14 @@ read-is : (bytes : List ℕ) {k : Check} → readCheck bytes ≡ k → readBy k 
 unfolding readingOf
 read-is bytes e = rw e
 
-checked-is : (bytes : List ℕ) (lent : ℕ) {k : Check} → checkCheck bytes lent ≡ k
+checked-is : (bytes : List ℕ) (lent : ℕ) {k : Check} → recordCheck bytes lent ≡ k
     → checkedBy k (contentsIn bytes) (verdictOf (programOf (contentsIn bytes)) (samplesOf (contentsIn bytes))) ≡ checking bytes lent
 unfolding checking
 checked-is bytes lent e = rw e
 
 -- a record that checking does not refuse is read
-read-first : (bytes : List ℕ) (lent : ℕ) → checkCheck bytes lent ≡ Passed → readCheck bytes ≡ Passed
-unfolding checkCheck
+read-first : (bytes : List ℕ) (lent : ℕ) → recordCheck bytes lent ≡ Passed → readCheck bytes ≡ Passed
+unfolding recordCheck
 read-first bytes lent e = then-passed (readCheck bytes) _ e .0
 
 module _ (bytes T : List ℕ) (passed : trailerCheck bytes ≡ Passed) {r : Evaluated}
@@ -107,15 +107,15 @@ module _ (bytes T : List ℕ) (passed : trailerCheck bytes ≡ Passed) {r : Eval
       → record { reading = read.Record (partsIn bytes); checked = compared (agrees (held .verdict) (held .passes) w) w } ≡ examining bytes (length T)
   verdict-told {w} q =
       let t = evaluation-passed (held .program) (held .trace) (held .n) (length T) e q in
-      let all : checkCheck bytes (length T) ≡ Passed = check-is bytes passed (length T) ∙ t .0 in
+      let all : recordCheck bytes (length T) ≡ Passed = check-is bytes passed (length T) ∙ t .0 in
       examined bytes (length T) (read-is bytes (read-first bytes (length T) all)) (rw (← t .1) (checked-is bytes (length T) all))
 
   -- the program's check decides whether a record that evaluating refuses is read
   pub refused-told : {f : Refusal} → r ≡ evaluated.Refused f → refusedBy (programCheck (held .program)) (partsIn bytes) f ≡ examining bytes (length T)
-  unfolding readCheck checkCheck
+  unfolding readCheck recordCheck
   refused-told {f} q = go (programCheck (held .program)) refl
     where
-      all : checkCheck bytes (length T) ≡ Refused f
+      all : recordCheck bytes (length T) ≡ Refused f
       all = check-is bytes passed (length T) ∙ evaluation-refused (held .program) (held .trace) (held .n) (length T) e q
 
       read-by : readCheck bytes ≡ programCheck (held .program)

@@ -5,23 +5,22 @@
 --   sound                                    4, or the parts
 --   two-at, four-at                          the bytes of a number at a place
 use mathlib.Core.Path.{_≡_, sym, _∙_}
-use mathlib.Core.Bool.{Bool, true, false, not}
+use mathlib.Core.Bool.{Bool, true, false}
 use mathlib.Core.List.{List, [], _∷_}
 use Prim.Native.Nat.{ℕ, suc, _+_, _-_, _<_, _≤_}
 use native.Mathlib.Omega.{arith}
 use native.Mathlib.Numerals.{add-one}
-use borrow.Author.Tests.{lt-ltb, le-ltb, ne-eqb, eq-eqb, eqb-true, ltb-false, leb-false, not-false}
-use lib.Dec.{eqb, leb, ltb}
+use borrow.Author.Tests.{lt-ltb, le-ltb, ne-eqb, eq-eqb}
 use lib.ListN.{length, getD}
 use lib.Seq.{drop-cons}
 use Rattle.refusal.specs.declared.Refusal.the-variants.{TrailerMissing, MarkOrFormat, TrailerFields}
-use Rattle.trace.specs.{mostSamples, bytesFor}
-use Rattle.rule.proofs.Tests.{neither}
+use Rattle.trace.specs.{bytesFor}
 use Rattle.encoding.specs.{fromLow}
 use Rattle.record.specs.declared.Reading.the-variants as read
-use Rattle.record.specs.Form.{format, mark, trailerBytes, afterTrace}
+use Rattle.record.specs.Form.{format, mark, trailerBytes}
 use Rattle.record.specs.Reading.{partOf, numberAt, trailerAt, programDistanceIn, traceDistanceIn, samplesIn, formatIn, markIn, verdictIn, passesIn, fieldsFault, trailerCheck, partsIn}
 use Rattle.record.specs.Steps.{located, Distances, storedAt}
+use Rattle.record.proofs.Fields.{fields-sound}
 
 module _ (bytes : List ℕ) where
   pub missing : length bytes < trailerBytes → read.Refused TrailerMissing ≡ located bytes
@@ -57,16 +56,8 @@ pub distances : (len first second n : ℕ) → trailerBytes ≤ len → fieldsFa
     → Distances len (len - trailerBytes) first second
 unfolding bytesFor
 distances len first second n long e =
-    let a = neither (ltb mostSamples n) _ e in
-    let b = neither (not (eqb second (bytesFor n + afterTrace))) _ (a .1) in
-    let c = neither (leb first second) _ (b .1) in
-    let second-is : second ≡ bytesFor n + afterTrace = eqb-true _ _ (not-false _ (b .0)) in
-    record {
-      trailer = omega arith;
-      within = ltb-false _ _ (c .1);
-      larger = leb-false _ _ (c .0);
-      tail = omega arith;
-    }
+    let s = fields-sound _ first second n e in
+    record { trailer = omega arith; within = s .within; larger = s .larger; tail = omega (arith, s .exact) }
 
 -- ---- Numbers at a place
 

@@ -30,7 +30,7 @@ use Rattle.record.specs.declared.Checked.the-variants as checked
 use Rattle.record.specs.Form.{Contents, labelBytes, mostVerdict, samplesOf, layout, Stated}
 use Rattle.record.specs.Reading.{contentsIn, readCheck}
 use Rattle.record.specs.Recording.{workedOut, recorded, recordOf, writeCheck}
-use Rattle.record.specs.Checking.{programOf, checkCheck, checkedBy, checking}
+use Rattle.record.specs.Checking.{programOf, recordCheck, checkedBy, checking}
 use Rattle.record.specs.Inverse.{ReadsBack}
 use Rattle.refusal.proofs.Checks.{then-passed}
 use Rattle.record.proofs.Inverse.{contents-in, layout-passed, read-back}
@@ -134,7 +134,7 @@ written-reads-back before program trace n label lent room are size e =
 agreed : (bytes : List ℕ) (lent : ℕ) (c : Contents) (v : Verdict) → readCheck bytes ≡ check.Passed → contentsIn bytes ≡ c
     → tableCheck (cells (samplesOf c) (programOf c)) lent ≡ check.Passed → verdictOf (programOf c) (samplesOf c) ≡ v
     → c .verdict ≡ verdictNumber (v .decision) → c .passes ≡ v .passes → checking bytes lent ≡ checked.Agrees v
-unfolding checking checkCheck
+unfolding checking recordCheck
 agreed bytes lent c v r e t w d p =
     ap (λ (x : Contents). checkedBy (readCheck bytes then tableCheck (cells (samplesOf x) (programOf x)) lent) x (verdictOf (programOf x) (samplesOf x))) e
     ∙ rw (r, t, w, eq-eqb (c .verdict) (verdictNumber (v .decision)) d, eq-eqb (c .passes) (v .passes) p)

@@ -24,8 +24,8 @@ abbrev pub programOf : Contents → Program
 programOf c = programIn (programFrom (c .program))
 
 -- 1 to 17, then 21
-unfoldable pub checkCheck : List ℕ → ℕ → Check
-checkCheck bytes lent =
+unfoldable pub recordCheck : List ℕ → ℕ → Check
+recordCheck bytes lent =
     let c = contentsIn bytes in
     readCheck bytes then tableCheck (cells (samplesOf c) (programOf c)) lent
 
@@ -45,7 +45,7 @@ checkedBy (check.Refused f) c v = checked.Refused f
 unfoldable pub checking : List ℕ → ℕ → Checked
 checking bytes lent =
     let c = contentsIn bytes in
-    checkedBy (checkCheck bytes lent) c (verdictOf (programOf c) (samplesOf c))
+    checkedBy (recordCheck bytes lent) c (verdictOf (programOf c) (samplesOf c))
 
 -- the table: the cells worked out; beyond them it keeps its content
 unfoldable pub tableChecked : List ℕ → List ℕ → List ℕ
@@ -53,7 +53,7 @@ tableChecked bytes table =
     let c = contentsIn bytes in
     let P = programOf c in
     let t = samplesOf c in
-    changedIf (checkCheck bytes (length table)) (finalTable P t ++ drop (cells t P) table) table
+    changedIf (recordCheck bytes (length table)) (finalTable P t ++ drop (cells t P) table) table
 
 -- the number of an answer, 0 for none
 abbrev pub checkedNumber : Checked → ℕ

@@ -2,7 +2,7 @@
 --   add-refused, add-stored      adding a sample
 --   take-refused, take-done      taking the trace
 --   added-determined, taken-determined   an answer is determined by its number and its value
-use mathlib.Core.Path.{_≡_, refl, sym, ap, _∙_}
+use mathlib.Core.Path.{_≡_, sym, ap}
 use mathlib.Core.List.{List}
 use Prim.Native.Nat.{ℕ}
 use lib.ListN.{length, set}

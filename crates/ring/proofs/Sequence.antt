@@ -9,10 +9,9 @@ use native.Mathlib.Omega.{arith}
 use lib.Dec.{eqb}
 use lib.ListN.{length, set, length-set}
 use borrow.Author.Tests.{eqb-false}
-use Rattle.refusal.specs.declared.Check.the-variants.{Passed}
 use Rattle.trace.specs.{mostSamples, bytesFor, packedInto}
 use Rattle.ring.specs.declared.Ring.{Ring}
-use Rattle.ring.specs.{newRing, reads, lastOf, held, stored, following, stepped, ringCheck, slotsAfter, ringAfter, outputAfter, samplesTaken, Lent, addAll, TakenAs, YieldsLast}
+use Rattle.ring.specs.{newRing, reads, lastOf, held, stored, following, stepped, slotsAfter, ringAfter, outputAfter, samplesTaken, Lent, addAll, TakenAs, YieldsLast}
 use Rattle.ring.specs.Place.{Sound}
 use Rattle.ring.proofs.Round.{last-all, last-append}
 use Rattle.ring.proofs.Held.{held-new, length-held, held-step}

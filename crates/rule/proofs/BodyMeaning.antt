@@ -7,21 +7,23 @@ use mathlib.Core.Path.{_≡_, refl}
 use mathlib.Core.Bool.{Bool, true, false, not}
 use mathlib.Core.List.{List, [], _∷_}
 use mathlib.Core.Option.{some}
-use Prim.Native.Nat.{ℕ, zero, suc, _+_, _-_}
+use Prim.Native.Nat.{ℕ, zero, suc, _+_, _-_, _≤_}
 use native.Mathlib.Nat.{add-zero}
 use native.Mathlib.Omega.{arith}
 use lib.ListN.{length, getElem?, drop, length-drop}
-use borrow.Author.Tests.{eq-eqb, ne-eqb}
+use lib.Dec.{eqb}
+use borrow.Author.Tests.{lt-ltb, le-ltb, eq-eqb, ne-eqb}
+use Rattle.refusal.specs.declared.Refusal.the-variants.{BytesAfterExpression}
+use Rattle.refusal.specs.declared.Check.the-variants as check
 use Rattle.refusal.specs.{_then_}
 use Rattle.trace.specs.{bitOf}
 use Rattle.semantics.specs.Language.{Kind, truth, list, Expr, Function, Program}
 use Rattle.semantics.specs.Table.{pick}
 use Rattle.rule.specs.declared.Header.{Header}
-use Rattle.rule.specs.declared.expression.Walked.{Walked}
-use Rattle.rule.specs.declared.expression.Walked.the-variants.{Past}
-use Rattle.rule.specs.Form.{mostDepth}
+use Rattle.rule.specs.Form.{mostDepth, mostBytes}
 use Rattle.rule.specs.Reading.{Parsed, got, refused, onward, kindAt, kindsFrom, paramKinds, resultKind, Raw, exprFrom, wholeBody, functionFrom, functionsFrom, mainKinds, checkFrom}
-use Rattle.rule.specs.Walk.{Frame, checkAt, bodyEnd, bodyAt, bodiesAt, mainBits}
+use Rattle.rule.specs.Walk.{Frame, stops, checkAt, bodyEnd, bodyAt, bodiesAt, mainBits}
+use Rattle.rule.proofs.Walking.{stop-above}
 use Rattle.rule.proofs.WalkMeaning.{Framed, Step, went, stopped, kind-bit, ownOf, expr-step}
 
 -- ---- Bodies
@@ -29,25 +31,27 @@ use Rattle.rule.proofs.WalkMeaning.{Framed, Step, went, stopped, kind-b
 -- the frame has the headers of a program, and the body, the parameters and the kinds of one of its functions
 pub record Fitting (H : List Header) (F : Frame) (x : Raw) : Type 0 where
   pub framed : Framed H F
+  pub short : length (F .body) ≤ mostBytes
   pub body : F .body ≡ x .body
   pub params : F .ownParams ≡ x .header .params
   pub kinds : F .ownKinds ≡ x .header .kinds
 
 -- the end of a body
-end-means : (body : List ℕ) (h : Header) (w : Walked) (p : Parsed Expr) → Step body w p → bodyEnd (length body) w ≡ checkFrom (wholeBody h p)
-end-means body h w p (went e to l) = go (drop to body) (length-drop to body)
+end-means : (body : List ℕ) (h : Header) → length body ≤ mostBytes → (w : ℕ) (p : Parsed Expr) → Step body w p → bodyEnd (length body) w ≡ checkFrom (wholeBody h p)
+unfolding bodyEnd
+end-means body h short w p (went e to l) = rw (lt-ltb to stops (omega arith)) (go (drop to body) (length-drop to body))
   where
-    go : (rest : List ℕ) → length rest ≡ length body - to → bodyEnd (length body) (Past to) ≡ checkFrom (wholeBody h (got e rest))
+    go : (rest : List ℕ) → length rest ≡ length body - to → pick (eqb to (length body)) check.Passed (check.Refused BytesAfterExpression) ≡ checkFrom (wholeBody h (got e rest))
     go [] n = rw (eq-eqb to (length body) (omega arith))
     go (b ∷ bs) n = rw (ne-eqb to (length body) (λ q. omega arith))
-end-means body h w p (stopped f) = refl
+end-means body h short w p (stopped f e) = rw (le-ltb _ _ (stop-above f), e)
 
 pub body-means : (H : List Header) (F : Frame) (x : Raw) → Fitting H F x → bodyAt F ≡ checkFrom (functionFrom H x)
 unfolding bodyAt
 body-means H F x fit =
     let step : Step (F .body) (checkAt F mostDepth (bitOf 4 (F .ownKinds)) 0) (exprFrom H (ownOf F) mostDepth (kindAt (F .ownKinds) 4) (F .body)) =
-    rw (kind-bit (F .ownKinds) 4) at (expr-step H F (fit .framed) mostDepth (kindAt (F .ownKinds) 4) 0 (omega arith)) in
-    rw (← fit .body, ← fit .params, ← fit .kinds) (end-means (F .body) _ _ _ step)
+    rw (kind-bit (F .ownKinds) 4) at (expr-step H F (fit .framed) (fit .short) mostDepth (kindAt (F .ownKinds) 4) 0 (omega arith)) in
+    rw (← fit .body, ← fit .params, ← fit .kinds) (end-means (F .body) _ (fit .short) _ _ step)
 
 -- ---- Functions
 

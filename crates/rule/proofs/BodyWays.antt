@@ -1,35 +1,40 @@
 -- Laws of bodies, one for each way through the code:
---   body-passed, body-after, body-refused    one body
+--   body-passed, body-after, body-stopped    one body
+--   part-short                               how long a body can be
 --   Going                                    a check that has gone past some bodies
-use mathlib.Core.Path.{_≡_, refl, sym, ap, _∙_}
-use mathlib.Core.Bool.{Bool, true, false}
+use mathlib.Core.Path.{_≡_, sym, ap}
+use mathlib.Core.Bool.{Bool}
 use mathlib.Core.List.{List}
 use Prim.Native.Nat.{ℕ, suc, _+_, _-_, _<_, _≤_}
 use native.Mathlib.Omega.{arith}
-use lib.ListN.{length}
-use borrow.Author.Tests.{eq-eqb, ne-eqb}
+use lib.ListN.{length, take, drop, length-drop}
+use lib.Seq.{length-take-le}
+use borrow.Author.Tests.{lt-ltb, le-ltb, eq-eqb, ne-eqb}
 use Rattle.refusal.specs.declared.Refusal.{Refusal}
 use Rattle.refusal.specs.declared.Refusal.the-variants.{BytesAfterExpression}
-use Rattle.refusal.specs.declared.Check.{Check}
 use Rattle.refusal.specs.declared.Check.the-variants as check
 use Rattle.refusal.specs.{_then_}
 use Rattle.trace.specs.{bitOf}
-use Rattle.rule.specs.declared.expression.Walked.the-variants.{Past, Refused}
 use Rattle.rule.specs.Form.{mostDepth}
-use Rattle.rule.specs.Walk.{Frame, checkAt, bodyEnd, bodyAt, bodiesAt}
+use Rattle.rule.specs.Walk.{Frame, stops, stoppedBy, checkAt, bodyEnd, bodyAt, bodiesAt}
 
-module _ (F : Frame) {list : Bool} (k : list ≡ bitOf 4 (F .ownKinds)) where
-  pub body-passed : {end : ℕ} → checkAt F mostDepth list 0 ≡ Past end → end ≡ length (F .body) → check.Passed ≡ bodyAt F
-  unfolding bodyAt
-  body-passed e q = rw (← k, e, eq-eqb _ _ q)
+module _ (F : Frame) {list : Bool} (k : list ≡ bitOf 4 (F .ownKinds)) {w : ℕ} (e : w ≡ checkAt F mostDepth list 0) where
+  pub body-passed : w < stops → w ≡ length (F .body) → check.Passed ≡ bodyAt F
+  unfolding bodyAt bodyEnd
+  body-passed h q = rw (← k, ← e, lt-ltb _ _ h, eq-eqb _ _ q)
 
-  pub body-after : {end : ℕ} → checkAt F mostDepth list 0 ≡ Past end → (end ≡ length (F .body) → ⊥) → check.Refused BytesAfterExpression ≡ bodyAt F
-  unfolding bodyAt
-  body-after e q = rw (← k, e, ne-eqb _ _ q)
+  pub body-after : w < stops → (w ≡ length (F .body) → ⊥) → check.Refused BytesAfterExpression ≡ bodyAt F
+  unfolding bodyAt bodyEnd
+  body-after h q = rw (← k, ← e, lt-ltb _ _ h, ne-eqb _ _ q)
 
-  pub body-refused : {f : Refusal} → checkAt F mostDepth list 0 ≡ Refused f → check.Refused f ≡ bodyAt F
-  unfolding bodyAt
-  body-refused e = rw (← k, e)
+  pub body-stopped : stops ≤ w → {f : Refusal} → f ≡ stoppedBy w → check.Refused f ≡ bodyAt F
+  unfolding bodyAt bodyEnd
+  body-stopped h q = rw (← k, ← e, le-ltb _ _ h, ← q)
+
+-- a part is no longer than the whole
+pub part-short : (bytes : List ℕ) {start end : ℕ} → start ≤ end → end ≤ length bytes → length (take (end - start) (drop start bytes)) ≤ length bytes
+part-short bytes {start} {end} h l =
+    omega (arith, length-drop start bytes, length-take-le (end - start) (drop start bytes) (omega (arith, length-drop start bytes)))
 
 -- the bodies before i have passed
 pub record Going (frames : ℕ → Frame) (n i : ℕ) : Type 0 where

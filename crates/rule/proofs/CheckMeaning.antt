@@ -6,7 +6,7 @@ use Prim.Native.Nat.{ℕ, _-_, _≤_}
 use native.Mathlib.Nat.{zero-add}
 use lib.ListN.{length, getD, drop, length-drop}
 use Rattle.semantics.specs.Language.{Program}
-use Rattle.rule.specs.Form.{mostFunctions, padded}
+use Rattle.rule.specs.Form.{mostFunctions, mostBytes, padded}
 use Rattle.rule.specs.Reading.{got, Raw, rawsFrom, functionsFrom, headers, mainFirst, checkFrom}
 use Rattle.rule.specs.Layout.{layoutOf}
 use Rattle.rule.specs.Walk.{bodiesAt, Placed, mainBits, rawLayout}
@@ -29,18 +29,18 @@ unfolding rawLayout padded
 main-first [] = refl
 main-first (x ∷ xs) = rw (layout-params (x ∷ xs) 0 x refl, layout-kinds (x ∷ xs) 0 x refl) (sym (main-means (x .header)))
 
-all-bodies : (bytes : List ℕ) (n : ℕ) (xs : List Raw) (rest : List ℕ) → RawsAre bytes n 1 xs rest → bodiesAt (rawFrame bytes (length xs) xs) (length xs) 0 ≡ checkFrom (functionsFrom (headers xs) xs)
-all-bodies bytes n xs rest are = bodies-mean _ (headers xs) xs 0 (λ j x e. rw (zero-add j) (fitting are j x e))
+all-bodies : (bytes : List ℕ) (n : ℕ) (xs : List Raw) (rest : List ℕ) → length bytes ≤ mostBytes → RawsAre bytes n 1 xs rest → bodiesAt (rawFrame bytes (length xs) xs) (length xs) 0 ≡ checkFrom (functionsFrom (headers xs) xs)
+all-bodies bytes n xs rest short are = bodies-mean _ (headers xs) xs 0 (λ j x e. rw (zero-add j) (fitting are short j x e))
 
-pub check-means : (bytes : List ℕ) (count : ℕ) (xs : List Raw) (rest : List ℕ) → count ≤ mostFunctions → 1 ≤ length bytes → rawsFrom count (drop 1 bytes) ≡ got xs rest → CheckMeans bytes count xs rest
-check-means bytes n xs rest few long q =
+pub check-means : (bytes : List ℕ) (count : ℕ) (xs : List Raw) (rest : List ℕ) → count ≤ mostFunctions → 1 ≤ length bytes → length bytes ≤ mostBytes → rawsFrom count (drop 1 bytes) ≡ got xs rest → CheckMeans bytes count xs rest
+check-means bytes n xs rest few long short q =
     let are = raws-are bytes n 1 xs rest long q in
     record {
       count = are .count;
       within = are .within;
       after = ap length (are .after) ∙ length-drop (endOf 1 xs) bytes;
       main = main-first xs;
-      bodies = rw (are .count) at (all-bodies bytes n xs rest are);
-      placed = rw (are .count) at (placed are (rw (are .count) few));
+      bodies = rw (are .count) at (all-bodies bytes n xs rest short are);
+      placed = rw (are .count) at (placed are short (rw (are .count) few));
       layout = λ P r p. layout-means xs P r (all-sound are) p;
     }

@@ -5,7 +5,7 @@
 --   bodies-refused        a body was refused
 --   all-passed            nothing was refused
 use mathlib.Core.Path.{_≡_, refl, sym, ap, subst, _∙_}
-use mathlib.Core.Bool.{Bool, true, false, not}
+use mathlib.Core.Bool.{Bool, true, false}
 use mathlib.Core.List.{List}
 use Prim.Native.Nat.{ℕ, _-_, _<_, _≤_}
 use native.Mathlib.Omega.{arith}
@@ -22,9 +22,8 @@ use Rattle.semantics.specs.Language.{Program}
 use Rattle.rule.specs.declared.Layout.{Layout}
 use Rattle.rule.specs.declared.Checked.{Checked}
 use Rattle.rule.specs.declared.functions.Scan.{Scan}
-use Rattle.rule.specs.Form.{mostFunctions}
 use Rattle.rule.specs.Reading.{Parsed, got, refused, onward, Raw, rawsFrom, headers, mainFirst, functionsFrom, bodiesFrom, checkFrom}
-use Rattle.rule.specs.Layout.{layoutOf, layoutFrom, checkedFrom}
+use Rattle.rule.specs.Layout.{checkedFrom}
 use Rattle.rule.specs.Walk.{Counted, Placed, rawLayout, scanFrom, mainBits, bodiesAt, frameAt}
 use Rattle.rule.proofs.CheckMeaning.{CheckMeans, check-means}
 
@@ -57,7 +56,7 @@ module _ (bytes : List ℕ) (count : ℕ) (scan : Scan) (e : scan ≡ scanFrom (
             raws = r;
             layout = ap (λ (x : Scan). x .layout) s;
             end = ap (λ (x : Scan). x .end) s;
-            means = check-means bytes count xs rest (c .few) (c .some) r;
+            means = check-means bytes count xs rest (c .few) (c .some) (c .short) r;
           }
       go (refused f) r = absurd (numbers.refused (sym (ap (λ (x : Scan). x .check) (e ∙ ap (scanFrom (length bytes)) r)) ∙ q))
 

@@ -72,9 +72,6 @@ header-is bs h e = go (ltb (length bs) 4) (kindsFault (getD bs 0 0) (getD bs 1 0
     go false false false p q r e = record { long = ltb-false _ _ p; same = sym (ap (foundIn h) e); kinds = q; size = r }
 
 module _ (bs : List ℕ) (h : Header) (is : HeaderIs bs h) where
-  pub header-params : h .params ≡ getD bs 0 0
-  header-params = ap (λ (x : Header). x .params) (is .same)
-
   pub header-fault : kindsFault (h .params) (h .kinds) ≡ false
   header-fault = rw (is .same) (is .kinds)
 

@@ -18,7 +18,7 @@ use Rattle.semantics.specs.Language.{Expr, Function, Program}
 use Rattle.rule.specs.declared.Header.{Header}
 use Rattle.rule.specs.declared.HeaderRead.{HeaderRead}
 use Rattle.rule.specs.declared.HeaderRead.the-variants.{Found, Refused}
-use Rattle.rule.specs.Form.{mostFunctions, mostParams, mostDepth, encodeExpr, padded, kindsByte}
+use Rattle.rule.specs.Form.{mostFunctions, mostParams, mostDepth, mostBytes, encodeExpr, padded, kindsByte}
 use Rattle.rule.specs.Reading.{Parsed, got, refused, onward, kindsFault, paramKinds, resultKind, headerOf, Raw, rawFrom, rawsFrom, exprFrom, wholeBody, functionFrom, functionsFrom, headers}
 use Rattle.rule.specs.Layout.{startsFrom, endsFrom, layoutOf}
 use Rattle.rule.specs.Walk.{Frame, frameAt, Placed, rawStarts, rawEnds, rawLayout}
@@ -28,6 +28,7 @@ use Rattle.rule.proofs.Scanning.{endOf, size-fits}
 use Rattle.rule.proofs.Parsing.{not-got, got-inv, Onward, by, onward-inv}
 use Rattle.rule.proofs.Expressions.{Heads, no-heads, one-head, place-below, expr-written}
 use Rattle.rule.proofs.KindBytes.{length-kinds, kinds-few, kinds-again}
+use Rattle.rule.proofs.BodyWays.{part-short}
 use Rattle.rule.proofs.WalkMeaning.{Framed}
 use Rattle.rule.proofs.BodyMeaning.{Fitting}
 
@@ -245,9 +246,10 @@ module _ {bytes : List ℕ} {n : ℕ} {xs : List Raw} {rest : List ℕ} (are : R
   small : (i : ℕ) (x : Raw) → getElem? xs i ≡ some x → x .header .params ≤ mostParams
   small i x e = kinds-few (x .header .params) (x .header .kinds) (all-sound i x e .kinds)
 
-  pub placed : length xs ≤ mostFunctions → Placed (length bytes) (length xs) (rawLayout xs .params) (rawLayout xs .starts) (rawLayout xs .ends)
-  placed few =
+  pub placed : length bytes ≤ mostBytes → length xs ≤ mostFunctions → Placed (length bytes) (length xs) (rawLayout xs .params) (rawLayout xs .starts) (rawLayout xs .ends)
+  placed short few =
       record {
+        short = short;
         few = few;
         ordered = λ i l. let x = there xs i l in rw (layout-starts xs i, layout-ends xs i) (are .each i (x .0) (x .1) .ordered);
         within = λ i l. let x = there xs i l in rw (layout-ends xs i) (are .each i (x .0) (x .1) .within);
@@ -264,11 +266,13 @@ module _ {bytes : List ℕ} {n : ℕ} {xs : List Raw} {rest : List ℕ} (are : R
             (layout-params xs g x (m .1) ∙ ap (λ (k : Header). k .params) (m .2), layout-kinds xs g x (m .1) ∙ ap (λ (k : Header). k .kinds) (m .2), rw (m .2) at (small g x (m .1)));
       }
 
-  pub fitting : (i : ℕ) (x : Raw) → getElem? xs i ≡ some x → Fitting (headers xs) (rawFrame bytes (length xs) xs i) x
-  fitting i x e =
+  pub fitting : length bytes ≤ mostBytes → (i : ℕ) (x : Raw) → getElem? xs i ≡ some x → Fitting (headers xs) (rawFrame bytes (length xs) xs i) x
+  fitting short i x e =
+      let same : rawFrame bytes (length xs) xs i .body ≡ x .body = rw (layout-starts xs i, layout-ends xs i) (sym (are .each i x e .body)) in
       record {
         framed = framed i;
-        body = rw (layout-starts xs i, layout-ends xs i) (sym (are .each i x e .body));
+        short = omega (arith, ap length same, ap length (are .each i x e .body), part-short bytes (are .each i x e .ordered) (are .each i x e .within));
+        body = same;
         params = layout-params xs i x e;
         kinds = layout-kinds xs i x e;
       }

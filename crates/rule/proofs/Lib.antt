@@ -10,6 +10,8 @@ pub mod Places
 pub mod RowsHold
 pub mod Walking
 pub mod HeaderWays
+pub mod Copying
+pub mod FrameWays
 pub mod BodyWays
 pub mod Scanning
 pub mod WalkMeaning

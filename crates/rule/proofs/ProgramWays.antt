@@ -3,8 +3,7 @@
 --   program-none, program-many         6
 --   program-counted                    go on with the functions
 --   answer-refused, answered           what the check answers of what was read
-use mathlib.Core.Path.{_≡_, refl, sym, ap, _∙_}
-use mathlib.Core.Bool.{true, false}
+use mathlib.Core.Path.{_≡_, ap}
 use mathlib.Core.List.{List, []}
 use Prim.Native.Nat.{ℕ, _<_, _≤_}
 use lib.ListN.{length, getD, drop}

@@ -5,7 +5,7 @@
 use mathlib.Core.Path.{_≡_, refl, sym, ap, _∙_}
 use mathlib.Core.Bool.{Bool, true, false, _||_}
 use mathlib.Core.List.{List, [], _∷_, _++_, map, append-assoc, append-nil}
-use Prim.Native.Nat.{ℕ, zero, suc, _+_, _-_, _<_, _≤_}
+use Prim.Native.Nat.{ℕ, suc, _+_, _-_, _<_, _≤_}
 use native.Mathlib.Omega.{arith}
 use lib.Dec.{eqb, ltb}
 use lib.ListN.{length, take, drop, set, replicate, length-append, length-drop, length-map}
@@ -17,12 +17,12 @@ use Rattle.rule.specs.declared.Header.{Header}
 use Rattle.rule.specs.declared.HeaderRead.the-variants.{Found, Refused}
 use Rattle.rule.specs.declared.Layout.{Layout}
 use Rattle.rule.specs.declared.functions.Scan.{Scan}
-use Rattle.rule.specs.Form.{mostFunctions, mostBody, mostBytes, padded}
-use Rattle.rule.specs.Reading.{Parsed, got, refused, onward, lengthFault, headerOf, Raw, rawFrom, rawsFrom}
+use Rattle.rule.specs.Form.{mostFunctions, mostBody, padded}
+use Rattle.rule.specs.Reading.{Parsed, got, refused, onward, lengthFault, headerOf, Raw, rawsFrom}
 use Rattle.rule.specs.Layout.{layoutOf}
-use Rattle.rule.specs.Walk.{Counted, rawStarts, rawEnds, rawLayout, scanFrom}
+use Rattle.rule.specs.Walk.{rawStarts, rawEnds, rawLayout, scanFrom}
 use Rattle.rule.proofs.Padded.{set-padded}
-use Rattle.rule.proofs.HeaderWays.{HeaderIs, header-is, header-size}
+use Rattle.rule.proofs.HeaderWays.{header-is, header-size}
 
 -- the place after some functions
 unfoldable pub endOf : ℕ → List Raw → ℕ

@@ -1,10 +1,10 @@
 -- The walk over positions of a body comes to what the reading of its bytes says:
---   walked                 what a reading is as a walk
 --   Framed                 a frame that fits the headers of a program
---   Step                   a walk and a reading that agree, the bytes after what was read being those at the place after it
+--   Step                   a walk and a reading that agree: the bytes after what was read are those at the place after it, or
+--                          both are refused
 --   kind-bit               a kind as a bit
 --   ownOf                  the kinds of a frame's own parameters
---   expr-step, expr-walk   expressions
+--   expr-step              expressions
 use mathlib.Core.Path.{_≡_, refl, ap, _∙_}
 use mathlib.Core.Bool.{Bool, true, false}
 use mathlib.Core.List.{List, [], _∷_}
@@ -14,28 +14,22 @@ use native.Mathlib.Nat.{zero-add}
 use native.Mathlib.Numerals.{add-one}
 use native.Mathlib.Omega.{arith}
 use lib.Dec.{ltb, leb}
-use lib.ListN.{length, getElem?, getD, drop, length-drop, drop-of-length-le}
+use lib.ListN.{length, getElem?, getD, drop, drop-of-length-le}
 use lib.Seq.{drop-cons}
 use borrow.Author.Tests.{lt-ltb, le-leb, lt-leb, ltb-true, ltb-false, leb-true, leb-false}
 use Rattle.refusal.specs.declared.Refusal.{Refusal}
-use Rattle.refusal.specs.declared.Refusal.the-variants.{BodyEnds, TooDeep, UnknownByte}
+use Rattle.refusal.specs.declared.Refusal.the-variants.{BodyEnds, TooDeep, ListConstructor, UnknownByte, WrongKind}
 use Rattle.trace.specs.{bitOf}
 use Rattle.semantics.specs.Language.{Kind, truth, list, Op, hd, tl, null, Expr, param, op, ifte, call, arg, opKind}
 use Rattle.semantics.specs.Table.{pick}
 use Rattle.rule.specs.declared.Node.{Node}
 use Rattle.rule.specs.declared.Node.the-variants as node
 use Rattle.rule.specs.declared.Header.{Header}
-use Rattle.rule.specs.declared.expression.Walked.{Walked}
-use Rattle.rule.specs.declared.expression.Walked.the-variants.{Past, Refused}
-use Rattle.rule.specs.Form.{mostParams, isList}
+use Rattle.rule.specs.Form.{mostParams, mostBytes, isList}
 use Rattle.rule.specs.Reading.{Parsed, got, refused, onward, kindAt, kindsFrom, resultKind, demanded, argsFrom, paramFrom, callFrom, opFrom, ifFrom, nodeOf, nodeFrom, exprFrom}
-use Rattle.rule.specs.Walk.{few, ofDemand, leafAt, paramAt, after, Frame, argsAt, armsBy, callBy, nodeBy, checkAt}
+use Rattle.rule.specs.Walk.{few, stops, stop, ended, stoppedBy, ofDemand, leafAt, paramAt, Frame, argsAt, armsBy, callBy, nodeBy, checkAt}
 use Rattle.rule.proofs.Expressions.{place-below}
-
--- what a reading of the rest of so many bytes is as a walk
-abbrev pub walked : ℕ → Parsed Expr → Walked
-walked len (got e rest) = Past (len - length rest)
-walked len (refused f) = Refused f
+use Rattle.rule.proofs.Walking.{check-stays}
 
 -- the frame has the headers of a program, whose counts are not refused
 pub record Framed (H : List Header) (F : Frame) : Type 0 where
@@ -73,33 +67,51 @@ absent-above [] i e = omega arith
 absent-above (x ∷ l) zero e = let z : _≡_ {A = ℕ} 0 1 = cc in absurd (omega arith)
 absent-above (x ∷ l) (suc i) e = omega (arith, absent-above l i e)
 
+-- ---- Refusals of expressions, known by their numbers
+
+known-end : stoppedBy (stop BodyEnds) ≡ BodyEnds
+unfolding stoppedBy stop
+known-end = refl
+
+known-deep : stoppedBy (stop TooDeep) ≡ TooDeep
+unfolding stoppedBy stop
+known-deep = refl
+
+known-list : stoppedBy (stop ListConstructor) ≡ ListConstructor
+unfolding stoppedBy stop
+known-list = refl
+
+known-byte : stoppedBy (stop UnknownByte) ≡ UnknownByte
+unfolding stoppedBy stop
+known-byte = refl
+
+known-kind : stoppedBy (stop WrongKind) ≡ WrongKind
+unfolding stoppedBy stop
+known-kind = refl
+
 -- ---- Walks and readings that agree
 
-pub data Step {A : Type 0} (body : List ℕ) : Walked → Parsed A → Type 0 where
-  went : (a : A) (to : ℕ) → to ≤ length body → Step body (Past to) (got a (drop to body))
-  stopped : (f : Refusal) → Step body (Refused f) (refused f)
+pub data Step {A : Type 0} (body : List ℕ) : ℕ → Parsed A → Type 0 where
+  went : (a : A) (to : ℕ) → to ≤ length body → Step body to (got a (drop to body))
+  stopped : (f : Refusal) → stoppedBy (stop f) ≡ f → Step body (stop f) (refused f)
 
 module _ {body : List ℕ} where
   -- one after the other
-  step-onward : {A B : Type 0} {w : Walked} {p : Parsed A} (k : ℕ → Walked) (l : A → List ℕ → Parsed B) → Step body w p
-      → ((a : A) (to : ℕ) → to ≤ length body → Step body (k to) (l a (drop to body))) → Step body (after w k) (onward p l)
-  step-onward k l (went a to h) more = more a to h
-  step-onward k l (stopped f) more = stopped f
+  step-onward : {A B : Type 0} {w : ℕ} {p : Parsed A} (k : ℕ → ℕ) (l : A → List ℕ → Parsed B) → ((f : Refusal) → k (stop f) ≡ stop f) → Step body w p
+      → ((a : A) (to : ℕ) → to ≤ length body → Step body (k to) (l a (drop to body))) → Step body (k w) (onward p l)
+  step-onward k l stays (went a to h) more = more a to h
+  step-onward k l stays (stopped f e) more = rw (stays f) (stopped f e)
 
   -- what was read as a part of something more
-  step-part : {A B : Type 0} {w : Walked} {p : Parsed A} (f : A → B) → Step body w p → Step body w (onward p (λ a rest. got (f a) rest))
+  step-part : {A B : Type 0} {w : ℕ} {p : Parsed A} (f : A → B) → Step body w p → Step body w (onward p (λ a rest. got (f a) rest))
   step-part f (went a to h) = went (f a) to h
-  step-part f (stopped r) = stopped r
+  step-part f (stopped r e) = stopped r e
 
-  step-demanded : {A : Type 0} {w : Walked} {p : Parsed A} (κ κ′ : Kind) → Step body w p → Step body (ofDemand (isList κ) (isList κ′) w) (demanded κ κ′ p)
+  step-demanded : {A : Type 0} {w : ℕ} {p : Parsed A} (κ κ′ : Kind) → Step body w p → Step body (ofDemand (isList κ) (isList κ′) w) (demanded κ κ′ p)
   step-demanded truth truth s = s
-  step-demanded truth list s = stopped _
-  step-demanded list truth s = stopped _
+  step-demanded truth list s = stopped WrongKind known-kind
+  step-demanded list truth s = stopped WrongKind known-kind
   step-demanded list list s = s
-
-  step-walked : {w : Walked} {p : Parsed Expr} → Step body w p → w ≡ walked (length body) p
-  step-walked (went e to h) = let same : to ≡ length body - length (drop to body) = omega (arith, length-drop to body) in ap Past same
-  step-walked (stopped f) = refl
 
   -- a leaf
   leaf-step : {A : Type 0} (κ κ′ : Kind) (a : A) (at : ℕ) → at ≤ length body → Step body (leafAt (isList κ) (isList κ′) at) (demanded κ κ′ (got a (drop at body)))
@@ -113,34 +125,40 @@ abbrev pub ownOf : Frame → List Kind
 ownOf F = kindsFrom (F .ownKinds) 0 (F .ownParams)
 
 module _ (H : List Header) (F : Frame) (fits : Framed H F) where
-  module _ (walk : Bool → ℕ → Walked) (read : Kind → List ℕ → Parsed Expr)
+  module _ (walk : Bool → ℕ → ℕ) (read : Kind → List ℕ → Parsed Expr)
+      (stays : (b : Bool) (f : Refusal) → walk b (stop f) ≡ stop f)
       (agree : (κ : Kind) (at : ℕ) → at ≤ length (F .body) → Step (F .body) (walk (isList κ) at) (read κ (drop at (F .body)))) where
     -- the place of an argument demands what its bit says
     bit-step : (k i at : ℕ) → at ≤ length (F .body) → Step (F .body) (walk (bitOf i k) at) (read (kindAt k i) (drop at (F .body)))
     bit-step k i at h = rw (kind-bit k i) at (agree (kindAt k i) at h)
 
+    args-stay : (k n i : ℕ) (f : Refusal) → argsAt walk k n i (stop f) ≡ stop f
+    unfolding argsAt
+    args-stay k zero i f = refl
+    args-stay k (suc n) i f = rw (stays (bitOf i k) f) (args-stay k n (i + 1) f)
+
     args-step : (k n i at : ℕ) → at ≤ length (F .body) → Step (F .body) (argsAt walk k n i at) (argsFrom read (kindsFrom k i n) (drop at (F .body)))
     unfolding argsAt argsFrom kindsFrom
     args-step k zero i at h = went _ at h
     args-step k (suc n) i at h =
-        step-onward (argsAt walk k n (i + 1)) _ (bit-step k i at h)
+        step-onward (argsAt walk k n (i + 1)) _ (args-stay k n (i + 1)) (bit-step k i at h)
         (λ e to l. rw (add-one i) (step-part (arg e) (args-step k n (suc i) to l)))
 
     param-step : (κ : Kind) (i at : ℕ) → at ≤ length (F .body) → Step (F .body) (paramAt (F .ownParams) (F .ownKinds) (isList κ) i at) (paramFrom (getElem? (ownOf F) i) κ i (drop at (F .body)))
     unfolding paramAt
     param-step κ i at h = go (ltb i (F .ownParams)) refl
       where
-        go : (t : Bool) → ltb i (F .ownParams) ≡ t → Step (F .body) (pick t (leafAt (isList κ) (bitOf i (F .ownKinds)) at) (Refused UnknownByte)) (paramFrom (getElem? (ownOf F) i) κ i (drop at (F .body)))
+        go : (t : Bool) → ltb i (F .ownParams) ≡ t → Step (F .body) (pick t (leafAt (isList κ) (bitOf i (F .ownKinds)) at) (stop UnknownByte)) (paramFrom (getElem? (ownOf F) i) κ i (drop at (F .body)))
         go true e =
             rw (kind-there (F .ownKinds) 0 (F .ownParams) i (ltb-true _ _ e), zero-add i)
             (rw (kind-bit (F .ownKinds) i) at (leaf-step {body = F .body} κ (kindAt (F .ownKinds) i) (param i) at h))
-        go false e = rw (kind-absent (F .ownKinds) 0 (F .ownParams) i (ltb-false _ _ e)) (stopped UnknownByte)
+        go false e = rw (kind-absent (F .ownKinds) 0 (F .ownParams) i (ltb-false _ _ e)) (stopped UnknownByte known-byte)
 
     call-step : (κ : Kind) (g at : ℕ) → at ≤ length (F .body) → Step (F .body) (callBy F walk (isList κ) at g) (callFrom (getElem? H g) read κ g (drop at (F .body)))
     call-step κ g at h = go (getElem? H g) refl
       where
         go : (found : Option Header) → getElem? H g ≡ found → Step (F .body) (callBy F walk (isList κ) at g) (callFrom found read κ g (drop at (F .body)))
-        go none e = rw (fits .count, le-leb _ _ (absent-above H g e)) (stopped UnknownByte)
+        go none e = rw (fits .count, le-leb _ _ (absent-above H g e)) (stopped UnknownByte known-byte)
         go (some x) e =
             let head = fits .heads g x e in
             rw (fits .count, lt-leb _ _ (place-below H g x e), head .0, head .1, few-few (x .params) (head .2))
@@ -148,8 +166,8 @@ module _ (H : List Header) (F : Frame) (fits : Framed H F) where
 
     if-step : (κ : Kind) (at : ℕ) → at ≤ length (F .body) → Step (F .body) (armsBy walk (isList κ) at) (ifFrom read κ (drop at (F .body)))
     if-step κ at h =
-        step-onward _ _ (agree truth at h) (λ c to l.
-        step-onward _ _ (agree κ to l) (λ a to′ l′.
+        step-onward (λ w. walk (isList κ) (walk (isList κ) w)) _ (λ f. ap (walk (isList κ)) (stays (isList κ) f) ∙ stays (isList κ) f) (agree truth at h) (λ c to l.
+        step-onward (walk (isList κ)) _ (stays (isList κ)) (agree κ to l) (λ a to′ l′.
         step-part (ifte c a) (agree κ to′ l′)))
 
     op-step : (p : Op) (κ : Kind) (at : ℕ) → at ≤ length (F .body) → Step (F .body) (ofDemand (isList κ) (isList (opKind p)) (walk true at)) (opFrom p read κ (drop at (F .body)))
@@ -164,28 +182,24 @@ module _ (H : List Header) (F : Frame) (fits : Framed H F) where
     node-step κ at h node.Tail = op-step tl κ at h
     node-step κ at h node.Null = op-step null κ at h
     node-step κ at h node.If = if-step κ at h
-    node-step κ at h node.Cons = stopped _
+    node-step κ at h node.Cons = stopped ListConstructor known-list
     node-step κ at h (node.Call g) = call-step κ g at h
-    node-step κ at h node.Unknown = stopped _
+    node-step κ at h node.Unknown = stopped UnknownByte known-byte
 
-  pub expr-step : (d : ℕ) (κ : Kind) (at : ℕ) → at ≤ length (F .body) → Step (F .body) (checkAt F d (isList κ) at) (exprFrom H (ownOf F) d κ (drop at (F .body)))
+  pub expr-step : length (F .body) ≤ mostBytes → (d : ℕ) (κ : Kind) (at : ℕ) → at ≤ length (F .body) → Step (F .body) (checkAt F d (isList κ) at) (exprFrom H (ownOf F) d κ (drop at (F .body)))
   unfolding checkAt exprFrom
-  expr-step zero κ at h = go (leb (length (F .body)) at) refl
+  expr-step short zero κ at h = go (leb (length (F .body)) at) refl
     where
-      go : (t : Bool) → leb (length (F .body)) at ≡ t → Step (F .body) (pick t (Refused BodyEnds) (Refused TooDeep)) (exprFrom H (ownOf F) zero κ (drop at (F .body)))
-      go true e = rw (drop-of-length-le (F .body) (leb-true _ _ e)) (stopped BodyEnds)
-      go false e = rw (drop-cons (F .body) at 0 (leb-false _ _ e)) (stopped TooDeep)
-  expr-step (suc d) κ at h = go (leb (length (F .body)) at) refl (λ κ′ to l. expr-step d κ′ to l)
+      go : (t : Bool) → leb (length (F .body)) at ≡ t → Step (F .body) (pick t (ended at) (stop TooDeep)) (exprFrom H (ownOf F) zero κ (drop at (F .body)))
+      go true e = rw (lt-ltb at stops (omega arith), drop-of-length-le (F .body) (leb-true _ _ e)) (stopped BodyEnds known-end)
+      go false e = rw (drop-cons (F .body) at 0 (leb-false _ _ e)) (stopped TooDeep known-deep)
+  expr-step short (suc d) κ at h = go (leb (length (F .body)) at) refl (λ κ′ to l. expr-step short d κ′ to l)
     where
       Deeper : Type 0
       Deeper = (κ′ : Kind) (to : ℕ) → to ≤ length (F .body) → Step (F .body) (checkAt F d (isList κ′) to) (exprFrom H (ownOf F) d κ′ (drop to (F .body)))
 
-      go : (t : Bool) → leb (length (F .body)) at ≡ t → Deeper → Step (F .body) (pick t (Refused BodyEnds) (nodeBy F (checkAt F d) (isList κ) (at + 1) (nodeOf (getD (F .body) at 0)))) (exprFrom H (ownOf F) (suc d) κ (drop at (F .body)))
-      go true e deeper = rw (drop-of-length-le (F .body) (leb-true _ _ e)) (stopped BodyEnds)
+      go : (t : Bool) → leb (length (F .body)) at ≡ t → Deeper → Step (F .body) (pick t (ended at) (nodeBy F (checkAt F d) (isList κ) (at + 1) (nodeOf (getD (F .body) at 0)))) (exprFrom H (ownOf F) (suc d) κ (drop at (F .body)))
+      go true e deeper = rw (lt-ltb at stops (omega arith), drop-of-length-le (F .body) (leb-true _ _ e)) (stopped BodyEnds known-end)
       go false e deeper =
           let within : suc at ≤ length (F .body) = leb-false _ _ e in
-          rw (drop-cons (F .body) at 0 within, add-one at) (node-step (checkAt F d) (λ κ′ rest. exprFrom H (ownOf F) d κ′ rest) deeper κ (suc at) within (nodeOf (getD (F .body) at 0)))
-
-pub expr-walk : (H : List Header) (F : Frame) → Framed H F → (d : ℕ) (κ : Kind) (at : ℕ) → at ≤ length (F .body)
-    → checkAt F d (isList κ) at ≡ walked (length (F .body)) (exprFrom H (ownOf F) d κ (drop at (F .body)))
-expr-walk H F fits d κ at h = step-walked (expr-step H F fits d κ at h)
+          rw (drop-cons (F .body) at 0 within, add-one at) (node-step (checkAt F d) (λ κ′ rest. exprFrom H (ownOf F) d κ′ rest) (check-stays F short d) deeper κ (suc at) within (nodeOf (getD (F .body) at 0)))

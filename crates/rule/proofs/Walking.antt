@@ -1,8 +1,9 @@
 -- Laws of the mirror, one for each way through the code:
+--   stop-above, check-stays                 a refusal is above all places, and a walk from it leaves it
+--   params-in, kinds-in                     the headers in an array
 --   check-end, check-deep, check-node       an expression: no byte, no depth left, a node
 --   param-there, param-absent               a parameter
 --   unary-of, unary-not                     a node with one list operand
---   arms-first, arms-second                 a condition and two branches
 --   call-none, call-not, call-args          a call
 --   Along                                   a call that has gone past some of its arguments
 use mathlib.Core.Path.{_≡_, refl, sym, ap, _∙_}
@@ -11,26 +12,38 @@ use mathlib.Core.List.{List}
 use Prim.Native.Nat.{ℕ, zero, suc, _+_, _-_, _<_, _≤_}
 use native.Mathlib.Numerals.{sub-one}
 use native.Mathlib.Omega.{arith}
-use lib.ListN.{length, getD}
+use lib.ListN.{length, getD, take, drop}
+use lib.Seq.{getD-take, getD-drop}
 use borrow.Author.Tests.{le-leb, lt-leb, lt-ltb, le-ltb}
-use Rattle.refusal.specs.declared.Refusal.the-variants.{BodyEnds, TooDeep, UnknownByte, WrongKind}
+use Rattle.refusal.specs.declared.Refusal.{Refusal}
+use Rattle.refusal.specs.declared.Refusal.the-variants.{TooDeep, UnknownByte, WrongKind}
 use Rattle.trace.specs.{bitOf}
 use Rattle.rule.specs.declared.Node.{Node}
-use Rattle.rule.specs.declared.expression.Walked.{Walked}
-use Rattle.rule.specs.declared.expression.Walked.the-variants.{Past, Refused}
+use Rattle.rule.specs.Form.{mostBytes}
 use Rattle.rule.specs.Reading.{nodeOf}
-use Rattle.rule.specs.Walk.{Frame, same, few, ofDemand, leafAt, paramAt, after, argsAt, armsBy, callBy, nodeBy, checkAt, unaryAt, armsAt, callAt}
+use Rattle.rule.specs.Walk.{Frame, same, few, stops, stop, ended, leafAt, paramAt, argsAt, nodeBy, checkAt, unaryAt, callAt}
+
+pub stop-above : (f : Refusal) → stops ≤ stop f
+unfolding stop
+stop-above f = omega arith
+
+module _ (heads : List ℕ) (g : ℕ) (h : g < 32) where
+  pub params-in : getD heads g 0 ≡ getD (take 32 heads) g 0
+  params-in = sym (getD-take 32 heads g 0 h)
+
+  pub kinds-in : getD heads (32 + g) 0 ≡ getD (take 32 (drop 32 heads)) g 0
+  kinds-in = sym (getD-take 32 (drop 32 heads) g 0 h ∙ getD-drop 32 heads g 0)
 
 module _ (F : Frame) (d : ℕ) (demand : Bool) (at : ℕ) where
-  pub check-end : length (F .body) ≤ at → checkAt F d demand at ≡ Refused BodyEnds
+  pub check-end : length (F .body) ≤ at → checkAt F d demand at ≡ ended at
   unfolding checkAt
   check-end h = go d
     where
-      go : (d : ℕ) → checkAt F d demand at ≡ Refused BodyEnds
+      go : (d : ℕ) → checkAt F d demand at ≡ ended at
       go zero = simp (le-leb _ _ h)
       go (suc d) = simp (le-leb _ _ h)
 
-  pub check-deep : at < length (F .body) → d ≡ 0 → checkAt F d demand at ≡ Refused TooDeep
+  pub check-deep : at < length (F .body) → d ≡ 0 → checkAt F d demand at ≡ stop TooDeep
   unfolding checkAt
   check-deep h e = simp (e, lt-leb _ _ h)
 
@@ -46,57 +59,55 @@ module _ (F : Frame) (d : ℕ) (demand : Bool) (at : ℕ) where
   unfolding unaryAt
   unary-of list e q = simp (sym e ∙ q)
 
-  pub unary-not : (list : Bool) {b : Bool} → b ≡ same demand list → b ≡ false → unaryAt F d demand list at ≡ Refused WrongKind
+  pub unary-not : (list : Bool) {b : Bool} → b ≡ same demand list → b ≡ false → unaryAt F d demand list at ≡ stop WrongKind
   unfolding unaryAt
   unary-not list e q = simp (sym e ∙ q)
 
-  pub arms-first : {s : Walked} → checkAt F d false at ≡ s → armsAt F d demand at ≡ after s (λ m. after (checkAt F d demand m) (checkAt F d demand))
-  unfolding armsAt
-  arms-first q = ap (λ (s : Walked). after s (λ m. after (checkAt F d demand m) (checkAt F d demand))) q
-
-  pub arms-second : {m : ℕ} {s : Walked} → checkAt F d false at ≡ Past m → checkAt F d demand m ≡ s → armsAt F d demand at ≡ after s (checkAt F d demand)
-  arms-second q r = arms-first q ∙ ap (λ (s : Walked). after s (checkAt F d demand)) r
-
   module _ (f : ℕ) where
-    pub call-none : F .functions ≤ f → callAt F d demand at f ≡ Refused UnknownByte
+    pub call-none : F .functions ≤ f → callAt F d demand at f ≡ stop UnknownByte
     unfolding callAt
     call-none h = simp (le-leb _ _ h)
 
-    pub call-not : {l b : Bool} → f < F .functions → l ≡ bitOf 4 (getD (F .kinds) f 0) → b ≡ same demand l → b ≡ false → callAt F d demand at f ≡ Refused WrongKind
-    unfolding callAt
-    call-not h e s q = simp (lt-leb _ _ h, sym e, sym s ∙ q)
+    module _ {s : ℕ} (k : s ≡ getD (F .kinds) f 0) {l b : Bool} (h : f < F .functions) (e : l ≡ bitOf 4 s) (q : b ≡ same demand l) where
+      pub call-not : b ≡ false → callAt F d demand at f ≡ stop WrongKind
+      unfolding callAt
+      call-not z = simp (lt-leb _ _ h, sym k, sym e, sym q ∙ z)
 
-    pub call-args : {l b : Bool} {left : ℕ} → f < F .functions → l ≡ bitOf 4 (getD (F .kinds) f 0) → b ≡ same demand l → b ≡ true → left ≡ few (getD (F .params) f 0) → callAt F d demand at f ≡ argsAt (checkAt F d) (getD (F .kinds) f 0) left 0 at
-    unfolding callAt
-    call-args h e s q z = simp (lt-leb _ _ h, sym e, sym s ∙ q, sym z)
+      pub call-args : b ≡ true → {left : ℕ} → left ≡ few (getD (F .params) f 0) → callAt F d demand at f ≡ argsAt (checkAt F d) s left 0 at
+      unfolding callAt
+      call-args z c = simp (lt-leb _ _ h, sym k, sym e, sym q ∙ z, sym c)
+
+-- a walk from a refusal on leaves it
+pub check-stays : (F : Frame) → length (F .body) ≤ mostBytes → (d : ℕ) (demand : Bool) (f : Refusal) → checkAt F d demand (stop f) ≡ stop f
+check-stays F short d demand f = check-end F d demand (stop f) (omega (arith, stop-above f)) ∙ simp (le-ltb _ _ (stop-above f))
 
 module _ (count kinds : ℕ) (demand : Bool) (i next : ℕ) where
-  pub param-there : {b : Bool} {w : Walked} → i < count → b ≡ bitOf i kinds → w ≡ leafAt demand b next → w ≡ paramAt count kinds demand i next
+  pub param-there : {b : Bool} {w : ℕ} → i < count → b ≡ bitOf i kinds → w ≡ leafAt demand b next → w ≡ paramAt count kinds demand i next
   unfolding paramAt
   param-there h e q = q ∙ simp (lt-ltb _ _ h, e)
 
-  pub param-absent : count ≤ i → Refused UnknownByte ≡ paramAt count kinds demand i next
+  pub param-absent : count ≤ i → stop UnknownByte ≡ paramAt count kinds demand i next
   unfolding paramAt
   param-absent h = simp (le-ltb _ _ h)
 
 -- a call of `left` arguments that has gone past i of them, up to m
-pub record Along (walk : Bool → ℕ → Walked) (ks left at i m : ℕ) : Type 0 where
+pub record Along (walk : Bool → ℕ → ℕ) (ks left at i m : ℕ) : Type 0 where
   pub below : i ≤ left
   pub rest : argsAt walk ks (left - i) i m ≡ argsAt walk ks left 0 at
 
-pub along-start : (walk : Bool → ℕ → Walked) (ks left at : ℕ) → Along walk ks left at 0 at
+pub along-start : (walk : Bool → ℕ → ℕ) (ks left at : ℕ) → Along walk ks left at 0 at
 along-start walk ks left at = record { below = omega arith; rest = ap (λ (k : ℕ). argsAt walk ks k 0 at) (omega arith) }
 
-module _ {walk : Bool → ℕ → Walked} {ks left at i m : ℕ} (u : Along walk ks left at i m) where
-  pub along-end : left ≤ i → argsAt walk ks left 0 at ≡ Past m
+module _ {walk : Bool → ℕ → ℕ} {ks left at i m : ℕ} (u : Along walk ks left at i m) where
+  pub along-end : left ≤ i → argsAt walk ks left 0 at ≡ m
   unfolding argsAt
   along-end h = let z : left - i ≡ 0 = omega arith in sym (u .rest) ∙ ap (λ (k : ℕ). argsAt walk ks k i m) z
 
-  pub along-next : i < left → {s : Walked} {b : Bool} → b ≡ bitOf i ks → walk b m ≡ s → argsAt walk ks left 0 at ≡ after s (argsAt walk ks (left - (i + 1)) (i + 1))
+  pub along-more : i < left → {b : Bool} {n : ℕ} → b ≡ bitOf i ks → n ≡ walk b m → Along walk ks left at (i + 1) n
   unfolding argsAt
-  along-next h {s} {b} e q =
+  along-more h {b} {n} e q =
       let z : left - i ≡ suc (left - (i + 1)) = omega arith in
-      sym (u .rest) ∙ ap (λ (k : ℕ). argsAt walk ks k i m) z ∙ ap (λ (b : Bool). after (walk b m) (argsAt walk ks (left - (i + 1)) (i + 1))) (sym e) ∙ ap (λ (s : Walked). after s (argsAt walk ks (left - (i + 1)) (i + 1))) q
-
-  pub along-more : i < left → {b : Bool} {n : ℕ} → b ≡ bitOf i ks → walk b m ≡ Past n → Along walk ks left at (i + 1) n
-  along-more h e q = record { below = omega arith; rest = sym (along-next h e q) }
+      record {
+        below = omega arith;
+        rest = ap (argsAt walk ks (left - (i + 1)) (i + 1)) (q ∙ ap (λ (c : Bool). walk c m) e) ∙ ap (λ (k : ℕ). argsAt walk ks k i m) (sym z) ∙ u .rest;
+      }

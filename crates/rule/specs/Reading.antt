@@ -1,7 +1,7 @@
 -- 'What is refused', 5 to 17, of document 01: any bytes are read as a program, or refused by the first number
 -- that applies. 'In 7 to 9 the first function at fault decides; in 12 to 17 the first function, and in it the
 -- first byte'; at one byte the lowest number.
-use Prim.Native.Nat.{ℕ, zero, suc, _+_, _-_, _*_, _/_, _%_, _^_}
+use Prim.Native.Nat.{ℕ, zero, suc, _+_, _-_, _*_, _%_, _^_}
 use mathlib.Core.Bool.{Bool, true, false, not, _&&_, _||_}
 use mathlib.Core.List.{List, [], _∷_, map}
 use mathlib.Core.Option.{Option, none, some}

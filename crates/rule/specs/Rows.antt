@@ -4,7 +4,6 @@ use mathlib.Core.Bool.{Bool, true, false, _&&_}
 use mathlib.Core.List.{List, [], _∷_}
 use lib.Dec.{eqb}
 use Rattle.refusal.specs.{numberOf}
-use Rattle.semantics.specs.declared.Verdict.{Verdict}
 use Rattle.semantics.specs.Language.{Program, Trace}
 use Rattle.semantics.specs.Table.{verdictNumber, verdictOf}
 use Rattle.rule.specs.Reading.{Parsed, got, refused, programFrom}

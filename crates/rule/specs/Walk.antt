@@ -1,20 +1,20 @@
 -- A mirror of the code: expressions checked by positions in a body, with kinds as bits; functions by their places.
+-- What a walk comes to is one number: a place of the body, or a refusal, which is above all places.
 -- No reader need believe it: proofs/ shows that it comes to what Reading says.
 use Prim.Native.Nat.{ℕ, zero, suc, _+_, _-_, _<_, _≤_}
 use mathlib.Core.Bool.{Bool, true, false, not}
 use mathlib.Core.List.{List, [], _∷_, map}
 use lib.Dec.{ltb, leb, eqb}
 use lib.ListN.{length, getD, take, drop}
+use Rattle.refusal.specs.declared.Refusal.{Refusal}
 use Rattle.refusal.specs.declared.Refusal.the-variants.{BodyEnds, TooDeep, ListConstructor, UnknownByte, WrongKind, BytesAfterExpression}
 use Rattle.refusal.specs.declared.Check.{Check}
 use Rattle.refusal.specs.declared.Check.the-variants as check
-use Rattle.refusal.specs.{_then_}
+use Rattle.refusal.specs.{numberOf, _then_}
 use Rattle.trace.specs.{bitOf}
 use Rattle.semantics.specs.Table.{pick}
 use Rattle.rule.specs.declared.Node.{Node}
 use Rattle.rule.specs.declared.Node.the-variants as node
-use Rattle.rule.specs.declared.expression.Walked.{Walked}
-use Rattle.rule.specs.declared.expression.Walked.the-variants.{Past, Refused}
 use Rattle.rule.specs.declared.Layout.{Layout}
 use Rattle.rule.specs.declared.functions.Scan.{Scan}
 use Rattle.rule.specs.Form.{mostFunctions, mostParams, mostDepth, mostBytes, padded}
@@ -27,20 +27,26 @@ same a b = pick a b (not b)
 abbrev pub few : ℕ → ℕ
 few count = pick (ltb count 5) count 4
 
+-- the numbers from here on stand for refusals
+abbrev pub stops : ℕ
+stops = 65536
+
+unfoldable pub stop : Refusal → ℕ
+stop f = stops + numberOf f
+
+-- what stands where the body has ended: the number that came so far, if it is a refusal's
+abbrev pub ended : ℕ → ℕ
+ended at = pick (ltb at stops) (stop BodyEnds) at
+
 -- a node of a kind at a place that demands one
-abbrev pub ofDemand : Bool → Bool → Walked → Walked
-ofDemand demand list w = pick (same demand list) w (Refused WrongKind)
+abbrev pub ofDemand : Bool → Bool → ℕ → ℕ
+ofDemand demand list w = pick (same demand list) w (stop WrongKind)
 
-unfoldable pub leafAt : Bool → Bool → ℕ → Walked
-leafAt demand list next = ofDemand demand list (Past next)
+unfoldable pub leafAt : Bool → Bool → ℕ → ℕ
+leafAt demand list next = ofDemand demand list next
 
-unfoldable pub paramAt : ℕ → ℕ → Bool → ℕ → ℕ → Walked
-paramAt count kinds demand i next = pick (ltb i count) (leafAt demand (bitOf i kinds) next) (Refused UnknownByte)
-
--- what follows an expression
-abbrev pub after : Walked → (ℕ → Walked) → Walked
-after (Past next) k = k next
-after (Refused f) k = Refused f
+unfoldable pub paramAt : ℕ → ℕ → Bool → ℕ → ℕ → ℕ
+paramAt count kinds demand i next = pick (ltb i count) (leafAt demand (bitOf i kinds) next) (stop UnknownByte)
 
 -- what a check of a body does not change
 pub record Frame : Type 0 where
@@ -55,20 +61,31 @@ abbrev pub frame : List ℕ → ℕ → List ℕ → List ℕ → ℕ → ℕ �
 frame body functions params kinds ownParams ownKinds =
     record { body = body; functions = functions; params = params; kinds = kinds; ownParams = ownParams; ownKinds = ownKinds }
 
+-- the frame that an array of the code has: counts of parameters from 0 on, kinds bytes from 32 on, at 64 how many functions
+-- there are, at 65 and 66 the count and the kinds byte of the body's function
+abbrev pub frameIn : List ℕ → List ℕ → Frame
+frameIn body heads = frame body (getD heads 64 0) (take 32 heads) (take 32 (drop 32 heads)) (getD heads 65 0) (getD heads 66 0)
+
+-- a frame within the limits of a program
+pub record Sized (F : Frame) : Type 0 where
+  pub short : length (F .body) ≤ mostBytes
+  pub few : F .functions ≤ mostFunctions
+  pub own : F .ownParams ≤ mostParams
+
 -- so many arguments, from argument i on
-unfoldable pub argsAt : (Bool → ℕ → Walked) → ℕ → ℕ → ℕ → ℕ → Walked
-argsAt walk kinds zero i at = Past at
-argsAt walk kinds (suc n) i at = after (walk (bitOf i kinds) at) (argsAt walk kinds n (i + 1))
+unfoldable pub argsAt : (Bool → ℕ → ℕ) → ℕ → ℕ → ℕ → ℕ → ℕ
+argsAt walk kinds zero i at = at
+argsAt walk kinds (suc n) i at = argsAt walk kinds n (i + 1) (walk (bitOf i kinds) at)
 
-abbrev pub armsBy : (Bool → ℕ → Walked) → Bool → ℕ → Walked
-armsBy walk demand at = after (walk false at) (λ second. after (walk demand second) (walk demand))
+abbrev pub armsBy : (Bool → ℕ → ℕ) → Bool → ℕ → ℕ
+armsBy walk demand at = walk demand (walk demand (walk false at))
 
-abbrev pub callBy : Frame → (Bool → ℕ → Walked) → Bool → ℕ → ℕ → Walked
+abbrev pub callBy : Frame → (Bool → ℕ → ℕ) → Bool → ℕ → ℕ → ℕ
 callBy F walk demand at g =
-    pick (leb (F .functions) g) (Refused UnknownByte)
+    pick (leb (F .functions) g) (stop UnknownByte)
     (ofDemand demand (bitOf 4 (getD (F .kinds) g 0)) (argsAt walk (getD (F .kinds) g 0) (few (getD (F .params) g 0)) 0 at))
 
-abbrev pub nodeBy : Frame → (Bool → ℕ → Walked) → Bool → ℕ → Node → Walked
+abbrev pub nodeBy : Frame → (Bool → ℕ → ℕ) → Bool → ℕ → Node → ℕ
 nodeBy F walk demand at node.False = leafAt demand false at
 nodeBy F walk demand at node.True = leafAt demand false at
 nodeBy F walk demand at node.Empty = leafAt demand true at
@@ -77,31 +94,40 @@ nodeBy F walk demand at node.Head = ofDemand demand false (walk true at)
 nodeBy F walk demand at node.Tail = ofDemand demand true (walk true at)
 nodeBy F walk demand at node.Null = ofDemand demand false (walk true at)
 nodeBy F walk demand at node.If = armsBy walk demand at
-nodeBy F walk demand at node.Cons = Refused ListConstructor
+nodeBy F walk demand at node.Cons = stop ListConstructor
 nodeBy F walk demand at (node.Call g) = callBy F walk demand at g
-nodeBy F walk demand at node.Unknown = Refused UnknownByte
+nodeBy F walk demand at node.Unknown = stop UnknownByte
 
--- the expression at a place, with so much depth left
-unfoldable pub checkAt : Frame → ℕ → Bool → ℕ → Walked
-checkAt F zero demand at = pick (leb (length (F .body)) at) (Refused BodyEnds) (Refused TooDeep)
+-- the expression at a place, with so much depth left; from a refusal on, that refusal
+unfoldable pub checkAt : Frame → ℕ → Bool → ℕ → ℕ
+checkAt F zero demand at = pick (leb (length (F .body)) at) (ended at) (stop TooDeep)
 checkAt F (suc d) demand at =
-    pick (leb (length (F .body)) at) (Refused BodyEnds)
+    pick (leb (length (F .body)) at) (ended at)
     (nodeBy F (checkAt F d) demand (at + 1) (nodeOf (getD (F .body) at 0)))
 
-unfoldable pub unaryAt : Frame → ℕ → Bool → Bool → ℕ → Walked
+unfoldable pub unaryAt : Frame → ℕ → Bool → Bool → ℕ → ℕ
 unaryAt F d demand list at = ofDemand demand list (checkAt F d true at)
 
-unfoldable pub armsAt : Frame → ℕ → Bool → ℕ → Walked
+unfoldable pub armsAt : Frame → ℕ → Bool → ℕ → ℕ
 armsAt F d demand at = armsBy (checkAt F d) demand at
 
-unfoldable pub callAt : Frame → ℕ → Bool → ℕ → ℕ → Walked
+unfoldable pub callAt : Frame → ℕ → Bool → ℕ → ℕ → ℕ
 callAt F d demand at g = callBy F (checkAt F d) demand at g
 
 -- ---- Bodies
 
-abbrev pub bodyEnd : ℕ → Walked → Check
-bodyEnd len (Past end) = pick (eqb end len) check.Passed (check.Refused BytesAfterExpression)
-bodyEnd len (Refused f) = check.Refused f
+-- the refusal of an expression that a number stands for
+unfoldable pub stoppedBy : ℕ → Refusal
+stoppedBy w =
+    pick (eqb w (stop BodyEnds)) BodyEnds
+    (pick (eqb w (stop TooDeep)) TooDeep
+    (pick (eqb w (stop ListConstructor)) ListConstructor
+    (pick (eqb w (stop UnknownByte)) UnknownByte WrongKind)))
+
+-- what the walk over a body of so many bytes comes to
+unfoldable pub bodyEnd : ℕ → ℕ → Check
+bodyEnd len w =
+    pick (ltb w stops) (pick (eqb w len) check.Passed (check.Refused BytesAfterExpression)) (check.Refused (stoppedBy w))
 
 -- a whole body
 unfoldable pub bodyAt : Frame → Check
@@ -119,6 +145,7 @@ bodiesAt frames (suc n) i = bodyAt (frames i) then bodiesAt frames n (i + 1)
 
 -- each body lies within the program, and has at most four parameters
 pub record Placed (len count : ℕ) (params starts ends : List ℕ) : Type 0 where
+  pub short : len ≤ mostBytes
   pub few : count ≤ mostFunctions
   pub ordered : (i : ℕ) → i < count → getD starts i 0 ≤ getD ends i 0
   pub within : (i : ℕ) → i < count → getD ends i 0 ≤ len

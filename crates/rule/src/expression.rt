@@ -1,40 +1,40 @@
-// Expressions, 12 to 16 of the list: the remaining depth falls at each node.
+// Expressions, 12 to 16 of the list: the remaining depth falls at each node. A walk comes to one number,
+// a place of the body or a refusal, and body and headers go from call to call as one word each: this
+// recursion is what checking a program costs.
 use crate::Node;
 use crate::nodes::node_of;
 use refusal::Refusal;
 ghost use mathlib.Core.Path.{_≡_};
 ghost use Prim.Native.Nat.{_<_, _≤_};
 ghost use Rattle.trace.specs.{bitOf};
-ghost use Rattle.rule.specs.Walk.{same, leafAt, paramAt, few, frame, checkAt, unaryAt, armsAt, callAt};
+ghost use Rattle.rule.specs.Walk.{same, leafAt, paramAt, few, frameIn, Sized, stop, ended, stoppedBy, checkAt, unaryAt, armsAt, callAt};
 
-// The position after an expression, or the refusal.
-pub enum Walked {
-    Past(usize),
-    Refused(Refusal),
-}
+// The numbers from here on stand for refusals: no place of a body is so great.
+pub const STOPS: usize = 65536;
 
-// Checks the expression at a place of a body, with so much depth left, at the kind that its place
-// demands (`list`, or Bool). `params` and `kinds` are the functions' headers; `own_params` and
-// `own_kinds` those of the body's function.
-pub fn check(
-    body: &[u8],
-    functions: u8,
-    params: &[u8; 32],
-    kinds: &[u8; 32],
-    own_params: u8,
-    own_kinds: u8,
-    list: bool,
-    depth: u8,
-    at: usize,
-) -> Walked
-    requires { ⌜ (functions ≤ 32) × («own_params» ≤ 4) ⌝ }
-    ensures { λ r. ⌜ r ≡ checkAt (frame (now (body .entry)) functions (now (params .entry)) (now (kinds .entry)) «own_params» «own_kinds») depth list at ⌝ }
+// An array of headers: from 0 on the functions' counts of parameters, from KINDS on their kinds bytes, then
+// how many functions there are, and the count and the kinds byte of the function whose body is checked.
+pub const KINDS: usize = 32;
+
+pub const FUNCTIONS: usize = 64;
+
+pub const OWN_PARAMS: usize = 65;
+
+pub const OWN_KINDS: usize = 66;
+
+pub const HEADS: usize = 67;
+
+// The place after the expression at a place of a body, with so much depth left, at the kind that its place
+// demands (`list`, or Bool); or its refusal. Where `at` is a refusal, it is the answer.
+pub fn check(body: &&[u8], heads: &[u8; HEADS], list: bool, depth: u8, at: usize) -> usize
+    requires { ⌜ Sized (frameIn (now (now body)) (now heads)) ⌝ }
+    ensures { λ r. ⌜ r ≡ checkAt (frameIn (now (now (body .entry))) (now (heads .entry))) depth list at ⌝ }
 {
     if body.len() <= at {
-        return Walked::Refused(Refusal::BodyEnds);
+        return after_end(at);
     }
     if depth == 0 {
-        return Walked::Refused(Refusal::TooDeep);
+        return refused(Refusal::TooDeep);
     }
     let left = depth - 1;
     let next = at + 1;
@@ -42,231 +42,119 @@ pub fn check(
         Node::False => leaf(list, false, next),
         Node::True => leaf(list, false, next),
         Node::Empty => leaf(list, true, next),
-        Node::Param(i) => param(own_params, own_kinds, list, i, next),
-        Node::Head => unary(
-            body,
-            functions,
-            params,
-            kinds,
-            own_params,
-            own_kinds,
-            list,
-            false,
-            left,
-            next,
-        ),
-        Node::Tail => unary(
-            body,
-            functions,
-            params,
-            kinds,
-            own_params,
-            own_kinds,
-            list,
-            true,
-            left,
-            next,
-        ),
-        Node::Null => unary(
-            body,
-            functions,
-            params,
-            kinds,
-            own_params,
-            own_kinds,
-            list,
-            false,
-            left,
-            next,
-        ),
-        Node::If => arms(
-            body,
-            functions,
-            params,
-            kinds,
-            own_params,
-            own_kinds,
-            list,
-            left,
-            next,
-        ),
-        Node::Cons => Walked::Refused(Refusal::ListConstructor),
-        Node::Call(g) => call(
-            body,
-            functions,
-            params,
-            kinds,
-            own_params,
-            own_kinds,
-            list,
-            left,
-            next,
-            g,
-        ),
-        Node::Unknown => Walked::Refused(Refusal::UnknownByte),
+        Node::Param(i) => param(heads[OWN_PARAMS], heads[OWN_KINDS], list, i, next),
+        Node::Head => unary(body, heads, list, false, left, next),
+        Node::Tail => unary(body, heads, list, true, left, next),
+        Node::Null => unary(body, heads, list, false, left, next),
+        Node::If => arms(body, heads, list, left, next),
+        Node::Cons => refused(Refusal::ListConstructor),
+        Node::Call(g) => call(body, heads, list, left, next, g),
+        Node::Unknown => refused(Refusal::UnknownByte),
+    }
+}
+
+// A refusal as a number.
+fn refused(refusal: Refusal) -> usize
+    ensures { λ r. ⌜ r ≡ stop refusal ⌝ }
+{
+    STOPS + (refusal::number(refusal) as usize)
+}
+
+// The refusal of an expression that a number stands for.
+pub fn refusal_of(walked: usize) -> Refusal
+    ensures { λ r. ⌜ r ≡ stoppedBy walked ⌝ }
+{
+    if walked == refused(Refusal::BodyEnds) {
+        return Refusal::BodyEnds;
+    }
+    if walked == refused(Refusal::TooDeep) {
+        return Refusal::TooDeep;
+    }
+    if walked == refused(Refusal::ListConstructor) {
+        return Refusal::ListConstructor;
+    }
+    if walked == refused(Refusal::UnknownByte) {
+        return Refusal::UnknownByte;
+    }
+    Refusal::WrongKind
+}
+
+// What an expression at no place of the body comes to: the refusal so far, or 12.
+fn after_end(at: usize) -> usize
+    ensures { λ r. ⌜ r ≡ ended at ⌝ }
+{
+    if at < STOPS {
+        refused(Refusal::BodyEnds)
+    } else {
+        at
     }
 }
 
 // A node with no operands.
-fn leaf(demand: bool, list: bool, next: usize) -> Walked
+fn leaf(demand: bool, list: bool, next: usize) -> usize
     ensures { λ r. ⌜ r ≡ leafAt demand list next ⌝ }
 {
     if alike(demand, list) {
-        Walked::Past(next)
+        next
     } else {
-        Walked::Refused(Refusal::WrongKind)
+        refused(Refusal::WrongKind)
     }
 }
 
-fn param(own_params: u8, own_kinds: u8, demand: bool, i: u8, next: usize) -> Walked
+fn param(own_params: u8, own_kinds: u8, demand: bool, i: u8, next: usize) -> usize
     requires { ⌜ «own_params» ≤ 4 ⌝ }
     ensures { λ r. ⌜ r ≡ paramAt «own_params» «own_kinds» demand i next ⌝ }
 {
     if i < own_params {
         leaf(demand, bit(own_kinds, i), next)
     } else {
-        Walked::Refused(Refusal::UnknownByte)
+        refused(Refusal::UnknownByte)
     }
 }
 
 // A node with one list operand.
-fn unary(
-    body: &[u8],
-    functions: u8,
-    params: &[u8; 32],
-    kinds: &[u8; 32],
-    own_params: u8,
-    own_kinds: u8,
-    demand: bool,
-    list: bool,
-    depth: u8,
-    at: usize,
-) -> Walked
-    requires { ⌜ (functions ≤ 32) × («own_params» ≤ 4) ⌝ }
-    ensures { λ r. ⌜ r ≡ unaryAt (frame (now (body .entry)) functions (now (params .entry)) (now (kinds .entry)) «own_params» «own_kinds») depth demand list at ⌝ }
+fn unary(body: &&[u8], heads: &[u8; HEADS], demand: bool, list: bool, depth: u8, at: usize) -> usize
+    requires { ⌜ Sized (frameIn (now (now body)) (now heads)) ⌝ }
+    ensures { λ r. ⌜ r ≡ unaryAt (frameIn (now (now (body .entry))) (now (heads .entry))) depth demand list at ⌝ }
 {
     if alike(demand, list) {
-        check(
-            body,
-            functions,
-            params,
-            kinds,
-            own_params,
-            own_kinds,
-            true,
-            depth,
-            at,
-        )
+        check(body, heads, true, depth, at)
     } else {
-        Walked::Refused(Refusal::WrongKind)
+        refused(Refusal::WrongKind)
     }
 }
 
 // A condition and two branches.
-fn arms(
-    body: &[u8],
-    functions: u8,
-    params: &[u8; 32],
-    kinds: &[u8; 32],
-    own_params: u8,
-    own_kinds: u8,
-    demand: bool,
-    depth: u8,
-    at: usize,
-) -> Walked
-    requires { ⌜ (functions ≤ 32) × («own_params» ≤ 4) ⌝ }
-    ensures { λ r. ⌜ r ≡ armsAt (frame (now (body .entry)) functions (now (params .entry)) (now (kinds .entry)) «own_params» «own_kinds») depth demand at ⌝ }
+fn arms(body: &&[u8], heads: &[u8; HEADS], demand: bool, depth: u8, at: usize) -> usize
+    requires { ⌜ Sized (frameIn (now (now body)) (now heads)) ⌝ }
+    ensures { λ r. ⌜ r ≡ armsAt (frameIn (now (now (body .entry))) (now (heads .entry))) depth demand at ⌝ }
 {
-    match check(
-        body,
-        functions,
-        params,
-        kinds,
-        own_params,
-        own_kinds,
-        false,
-        depth,
-        at,
-    ) {
-        Walked::Past(second) => {
-            match check(
-                body,
-                functions,
-                params,
-                kinds,
-                own_params,
-                own_kinds,
-                demand,
-                depth,
-                second,
-            ) {
-                Walked::Past(third) => check(
-                    body,
-                    functions,
-                    params,
-                    kinds,
-                    own_params,
-                    own_kinds,
-                    demand,
-                    depth,
-                    third,
-                ),
-                Walked::Refused(refusal) => Walked::Refused(refusal),
-            }
-        }
-        Walked::Refused(refusal) => Walked::Refused(refusal),
-    }
+    let second = check(body, heads, false, depth, at);
+    let third = check(body, heads, demand, depth, second);
+    check(body, heads, demand, depth, third)
 }
 
 // A call of a function, with its arguments.
-fn call(
-    body: &[u8],
-    functions: u8,
-    params: &[u8; 32],
-    kinds: &[u8; 32],
-    own_params: u8,
-    own_kinds: u8,
-    demand: bool,
-    depth: u8,
-    at: usize,
-    callee: u8,
-) -> Walked
-    requires { ⌜ (functions ≤ 32) × («own_params» ≤ 4) ⌝ }
-    ensures { λ r. ⌜ r ≡ callAt (frame (now (body .entry)) functions (now (params .entry)) (now (kinds .entry)) «own_params» «own_kinds») depth demand at callee ⌝ }
+fn call(body: &&[u8], heads: &[u8; HEADS], demand: bool, depth: u8, at: usize, callee: u8) -> usize
+    requires { ⌜ Sized (frameIn (now (now body)) (now heads)) ⌝ }
+    ensures { λ r. ⌜ r ≡ callAt (frameIn (now (now (body .entry))) (now (heads .entry))) depth demand at callee ⌝ }
 {
-    if functions <= callee {
-        return Walked::Refused(Refusal::UnknownByte);
+    if heads[FUNCTIONS] <= callee {
+        return refused(Refusal::UnknownByte);
     }
     let g = callee as usize;
-    let signature = kinds[g];
+    let signature = heads[KINDS + g];
     if alike(demand, bit(signature, 4)) {
-        let count = at_most_four(params[g]);
+        let count = at_most_four(heads[g]);
         let mut i: u8 = 0;
         let mut next = at;
         while i < count {
-            match check(
-                body,
-                functions,
-                params,
-                kinds,
-                own_params,
-                own_kinds,
-                bit(signature, i),
-                depth,
-                next,
-            ) {
-                Walked::Past(after) => {
-                    next = after;
-                }
-                Walked::Refused(refusal) => {
-                    return Walked::Refused(refusal);
-                }
-            }
+            next = check(body, heads, bit(signature, i), depth, next);
             i += 1;
         }
-        Walked::Past(next)
+        next
     } else {
-        Walked::Refused(Refusal::WrongKind)
+        refused(Refusal::WrongKind)
     }
 }
 

@@ -4,17 +4,18 @@ use crate::Checked;
 use crate::HeaderRead;
 use crate::Layout;
 use crate::expression;
-use crate::expression::Walked;
+use crate::expression::HEADS;
 use crate::headers;
 use refusal::Check;
 use refusal::Refusal;
 ghost use mathlib.Core.Path.{_≡_};
-ghost use Prim.Native.Nat.{_≤_};
-ghost use mathlib.Core.List.{[]};
+ghost use Prim.Native.Nat.{ℕ, _+_, _≤_};
+ghost use mathlib.Core.List.{List, []};
 ghost use lib.ListN.{length, drop};
+ghost use lib.Seq.{paste};
 ghost use Rattle.rule.specs.Reading.{onward, rawsFrom, bodiesFrom};
 ghost use Rattle.rule.specs.Layout.{layoutOf, checkedFrom};
-ghost use Rattle.rule.specs.Walk.{frame, frameAt, mainBits, bodyAt, bodiesAt, Placed, Counted, scanFrom};
+ghost use Rattle.rule.specs.Walk.{frame, frameIn, Sized, frameAt, mainBits, bodyAt, bodiesAt, Placed, Counted, scanFrom};
 
 // Checks the functions of a program of so many.
 pub fn check_functions(program: &[u8], count: u8) -> Checked
@@ -158,7 +159,8 @@ fn check_bodies(
         let start = starts[i] as usize;
         let end = ends[i] as usize;
         let body = &program[start..end];
-        match check_body(body, count, params, kinds, params[i], kinds[i]) {
+        let heads = heads_of(count, params, kinds, params[i], kinds[i]);
+        match check_body(body, &heads) {
             Check::Refused(refusal) => {
                 return Check::Refused(refusal);
             }
@@ -169,37 +171,50 @@ fn check_bodies(
     Check::Passed
 }
 
-// Checks one body: an expression of the result kind, and nothing after it.
-fn check_body(
-    body: &[u8],
-    functions: u8,
+// The array of headers for the body of one function.
+fn heads_of(
+    count: u8,
     params: &[u8; 32],
     kinds: &[u8; 32],
     own_params: u8,
     own_kinds: u8,
-) -> Check
-    requires { ⌜ (functions ≤ 32) × («own_params» ≤ 4) ⌝ }
-    ensures { λ r. ⌜ r ≡ bodyAt (frame (now (body .entry)) functions (now (params .entry)) (now (kinds .entry)) «own_params» «own_kinds») ⌝ }
+) -> [u8; HEADS]
+    ensures { λ r. ⌜ ((body : List ℕ) → frameIn body r ≡ frame body count (now (params .entry)) (now (kinds .entry)) «own_params» «own_kinds») ⌝ }
 {
-    let list = expression::bit(own_kinds, 4);
-    match expression::check(
-        body,
-        functions,
-        params,
-        kinds,
-        own_params,
-        own_kinds,
-        list,
-        crate::MOST_DEPTH,
-        0,
-    ) {
-        Walked::Past(end) => {
-            if end == body.len() {
-                Check::Passed
-            } else {
-                Check::Refused(Refusal::BytesAfterExpression)
-            }
-        }
-        Walked::Refused(refusal) => Check::Refused(refusal),
+    let mut heads = [0u8; HEADS];
+    copy(params, 0, &mut heads);
+    copy(kinds, expression::KINDS, &mut heads);
+    heads[expression::FUNCTIONS] = count;
+    heads[expression::OWN_PARAMS] = own_params;
+    heads[expression::OWN_KINDS] = own_kinds;
+    heads
+}
+
+// Copies bytes to a place of an array of headers.
+fn copy(from: &[u8], at: usize, heads: &mut [u8])
+    requires { ⌜ at + length (now from) ≤ length (now heads) ⌝ }
+    ensures { λ _. ⌜ now (heads .exit) ≡ paste (now (heads .entry)) at (now (from .entry)) (length (now (from .entry))) ⌝ }
+{
+    let mut i: usize = 0;
+    while i < from.len() {
+        heads[at + i] = from[i];
+        i += 1;
+    }
+}
+
+// Checks one body: an expression of the result kind, and nothing after it.
+fn check_body(body: &[u8], heads: &[u8; HEADS]) -> Check
+    requires { ⌜ Sized (frameIn (now body) (now heads)) ⌝ }
+    ensures { λ r. ⌜ r ≡ bodyAt (frameIn (now (body .entry)) (now (heads .entry))) ⌝ }
+{
+    let list = expression::bit(heads[expression::OWN_KINDS], 4);
+    let end = expression::check(&body, heads, list, crate::MOST_DEPTH, 0);
+    if expression::STOPS <= end {
+        return Check::Refused(expression::refusal_of(end));
+    }
+    if end == body.len() {
+        Check::Passed
+    } else {
+        Check::Refused(Refusal::BytesAfterExpression)
     }
 }

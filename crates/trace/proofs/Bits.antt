@@ -4,7 +4,7 @@
 --   binary-snoc            one more digit at the high end
 --   with-bit               writing the next bit of a number is one more digit
 --   weight-exact           the code's 1 << k is 2 ^ k
-use mathlib.Core.Path.{_≡_, refl, sym, ap, _∙_}
+use mathlib.Core.Path.{_≡_, sym, ap, _∙_}
 use mathlib.Core.Bool.{Bool, true, false}
 use mathlib.Core.List.{List, [], _∷_, _++_}
 use Prim.Native.Nat.{ℕ, zero, suc, _+_, _*_, _/_, _%_, _^_, _<_, _≤_}
@@ -12,7 +12,7 @@ use native.Mathlib.Nat.{zero-div, pow-succ', mul-left-comm, one-mul, mod-eq-of-l
 use native.Mathlib.Omega.{arith}
 use lib.Dec.{eqb}
 use lib.ListN.{length, getD}
-use lib.Pow.{shr-shr, shl-exact, pow-mono}
+use lib.Pow.{shr-shr, shl-exact}
 use Rattle.trace.specs.{bitOf, digit, binary, withBit}
 
 half : (b : Bool) (m : ℕ) → (digit b + 2 * m) / 2 ≡ m

@@ -10,14 +10,14 @@
 --   length-into                     it keeps its length
 use mathlib.Core.Path.{_≡_, refl, sym, ap, _∙_}
 use mathlib.Core.Logic.{⊎-elim}
-use mathlib.Core.Bool.{Bool, true, false}
+use mathlib.Core.Bool.{Bool, false}
 use mathlib.Core.List.{List, [], _∷_, _++_}
 use Prim.Native.Nat.{ℕ, zero, suc, _+_, _*_, _-_, _/_, _%_, _^_, _<_, _≤_}
 use native.Mathlib.Nat.{eq-or-lt-of-le, zero-div}
 use native.Mathlib.Numerals.{add-one}
 use native.Mathlib.Omega.{arith}
-use lib.ListN.{length, getD, take, drop, set, length-append, length-drop, length-take, List·getD-append, List·getD-eq-default}
-use lib.Seq.{length-take-le, take-suc, take-all, take-append-le, drop-append-le, drop-drop, drop-nil, getD-take, getD-drop, getD-at, set-out}
+use lib.ListN.{length, getD, take, drop, set, length-append, length-drop, List·getD-append, List·getD-eq-default}
+use lib.Seq.{length-take-le, take-suc, take-all, take-append-le, drop-append-le, drop-drop, getD-take, getD-drop, getD-at, set-out}
 use Rattle.trace.specs.{mostSamples, bitOf, sampleAt, samples, digit, binary, bytesFor, packed, pack, packedInto, withBit, withSample}
 use Rattle.trace.proofs.Bits.{bit-binary, with-bit}
 

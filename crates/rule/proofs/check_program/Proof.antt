@@ -1,5 +1,4 @@
 -- `check_program` meets its contract: 5, then 6, then the functions.
-use native.Mathlib.Omega.{arith}
 use borrow.Author.Needs.{needs}
 use Rattle.rule.proofs.ProgramWays.{program-empty, program-long, program-none, program-many, program-counted, answer-refused, answered}
 use Rattle.rule.proofs.check_program.Statement.{statement}

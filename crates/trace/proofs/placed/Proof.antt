@@ -1,11 +1,10 @@
 -- `placed` meets its contract: 1 << k is 2 ^ k, at most 128, so the sum stays a byte.
-use mathlib.Core.Path.{_≡_}
 use Prim.Native.Nat.{_^_, _≤_}
 use native.Mathlib.Nat.{mod-lt}
 use native.Mathlib.Omega.{arith}
 use borrow.Author.Needs.{needs}
 use lib.Pow.{pow-pos, pow-mono}
-use Rattle.trace.specs.{digit, withBit}
+use Rattle.trace.specs.{withBit}
 use Rattle.trace.proofs.Bits.{weight-exact}
 use Rattle.trace.proofs.placed.Statement.{statement}
 use Rattle.trace.proofs.placed.Tie as tie

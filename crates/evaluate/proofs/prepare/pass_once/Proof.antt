@@ -1,43 +1,26 @@
 -- `pass_once` meets its contract, as `decide` does, with one pass.
 use native.Mathlib.Omega.{arith}
-use Rattle.evaluate.proofs.Settling.{trace-short, settled-covered, settled-pass, settled-stored}
+use Rattle.evaluate.proofs.Settling.{trace-short, settled-covered, settled-pass}
 use borrow.Author.Needs.{needs}
 use Rattle.evaluate.proofs.prepare.pass_once.Statement.{statement}
 use Rattle.evaluate.proofs.prepare.pass_once.Tie as tie
 
-program-array-requires : tie.Need-program-array-requires
-program-array-requires c κs = search needs
-
-expression-ends-requires : tie.Need-expression-ends-requires
-expression-ends-requires c κs = search needs
-
-trace-array-requires : tie.Need-trace-array-requires
-trace-array-requires c κs = trace-short (c .before .before .before .before .before .before .before .before .before .before .pre)
+words-of-requires : tie.Need-words-of-requires
+words-of-requires c κs =
+    let u = c .before .before .before .before .before .pre in
+    (u .accepted .short, trace-short u)
 
 pass-requires : tie.Need-pass-requires
-pass-requires c κs =
-    settled-covered (c .before .before .before .before .before .before .before .before .before .before .before .before .before .before .before .before .before .pre) (c .before .before .before .before .before .before .before .before .before .before .program-array .ensures) (c .before .before .before .before .before .before .before .expression-ends .ensures) (c .before .before .before .before .before .before .trace-array .ensures) _ (omega arith)
+pass-requires c κs = settled-covered (c .before .before .before .before .before .before .before .before .before .before .before .before .pre) _ (omega arith)
 
 same-length : tie.Need-same-length
 same-length c = search needs
 
 returns : tie.Need-returns
 returns c =
-    let start = c .before .before .before .before .before .before .before .before .before .before .before .before .before .before .before .before .before .before .before .before in
-    let code = c .before .before .before .before .before .before .before .before .before .before .before .before .before .program-array .ensures in
-    let ends = c .before .before .before .before .before .before .before .before .before .before .expression-ends .ensures in
-    let copy = c .before .before .before .before .before .before .before .before .before .trace-array .ensures in (
-      settled-stored (start .pre) code ends copy (start .args .table .now) (c .before .before .pass .ensures .1),
-      settled-pass (start .pre) code ends copy (start .args .table .now) (c .before .before .pass .ensures .0),
-    )
+    let words = c .before .before .before .before .before .before .before .before .before in
+    let start = words .before .before .before .before .before .before in
+    settled-pass (start .pre) _ (words .words-of .ensures) _ (c .before .before .pass .ensures)
 
 pub pass-once-spec : {M : Type 1} → statement M
-pass-once-spec =
-    tie.close
-    (tie.spec
-    program-array-requires
-    expression-ends-requires
-    trace-array-requires
-    pass-requires
-    same-length
-    returns)
+pass-once-spec = tie.close (tie.spec words-of-requires pass-requires same-length returns)

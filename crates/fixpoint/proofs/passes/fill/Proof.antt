@@ -4,7 +4,7 @@ use lib.ListN.{getD}
 use borrow.Author.Needs.{needs}
 use Rattle.fixpoint.proofs.passes.fill.Statement.{statement}
 use Rattle.fixpoint.proofs.passes.fill.Tie as tie
-use Rattle.fixpoint.specs.Mirror.{setup}
+use Rattle.fixpoint.specs.Mirror.{setupIn}
 use Rattle.fixpoint.proofs.SetupLoops.{few-bound}
 use Rattle.fixpoint.proofs.PassWays.{env-filled, fill-none, fill-stored}
 
@@ -54,7 +54,7 @@ returns c =
     let values = c .before .before .before .before in
     let counted = values .before .before .before in
     let a = counted .before .before .before .before .args in
-    fill-none (setup (a .code .now) (a .ends .now) (a .functions .now) (a .trace .now)) _ _ _ _ _ (env-filled (a .functions .now) (a .n) (a .g) (a .index) (counted .at-most-four .ensures) (values .values .ensures)) (c .before .outcome .ensures) (c .if1 .taken)
+    fill-none (setupIn (a .words .now) (a .functions .now)) _ _ _ _ _ (env-filled (a .functions .now) (a .n) (a .g) (a .index) (counted .at-most-four .ensures) (values .values .ensures)) (c .before .outcome .ensures) (c .if1 .taken)
 
 mul-table : tie.Need-mul-table
 mul-table c = search needs
@@ -70,7 +70,7 @@ returns-2 c =
     let values = c .before .before .before .before in
     let counted = values .before .before .before in
     let a = counted .before .before .before .before .args in
-    fill-stored (setup (a .code .now) (a .ends .now) (a .functions .now) (a .trace .now)) _ _ _ _ _ (env-filled (a .functions .now) (a .n) (a .g) (a .index) (counted .at-most-four .ensures) (values .values .ensures)) (c .before .outcome .ensures) (c .if1 .left)
+    fill-stored (setupIn (a .words .now) (a .functions .now)) _ _ _ _ _ (env-filled (a .functions .now) (a .n) (a .g) (a .index) (counted .at-most-four .ensures) (values .values .ensures)) (c .before .outcome .ensures) (c .if1 .left)
 
 pub fill-spec : {M : Type 1} → statement M
 fill-spec =

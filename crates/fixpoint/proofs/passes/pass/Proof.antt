@@ -2,17 +2,17 @@
 use Prim.Native.Nat.{_-_, _≤_}
 use native.Mathlib.Omega.{arith}
 use borrow.Author.Needs.{needs}
-use Rattle.fixpoint.specs.Mirror.{setup}
+use Rattle.fixpoint.specs.Mirror.{setupIn}
 use Rattle.fixpoint.proofs.PassWays.{Covering, covering-start, covering-more, covering-end}
 use Rattle.fixpoint.proofs.passes.pass.Statement.{statement}
 use Rattle.fixpoint.proofs.passes.pass.Tie as tie
 
 abbrev Inv-loop : tie.InvT-loop
-Inv-loop code ends functions trace table₀ n starts count last stored₀ g₀ table stored g =
-    Covering (setup code ends functions trace) n starts table₀ table stored g × (g ≤ last)
+Inv-loop words functions table₀ n starts count last stored₀ g₀ table stored g =
+    Covering (setupIn words functions) n starts table₀ table stored g × (g ≤ last)
 
 abbrev μ-loop : tie.MeasureT-loop
-μ-loop code ends functions trace table₀ n starts count last stored₀ g₀ table stored g = last - g
+μ-loop words functions table₀ n starts count last stored₀ g₀ table stored g = last - g
 
 loop-holds : tie.Need-loop-holds Inv-loop μ-loop
 loop-holds c = (covering-start _ _ _ _, omega arith)

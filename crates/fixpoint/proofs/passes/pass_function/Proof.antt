@@ -6,18 +6,18 @@ use native.Mathlib.Omega.{arith}
 use lib.ListN.{length, getD}
 use borrow.Author.Needs.{needs}
 use Rattle.trace.specs.{bitOf}
-use Rattle.fixpoint.specs.Mirror.{heldCode, setup, kindsOf, sizeOf}
+use Rattle.fixpoint.specs.Mirror.{heldCode, setupIn, kindsOf, sizeOf}
 use Rattle.fixpoint.proofs.SetupLoops.{few-bound}
 use Rattle.fixpoint.proofs.PassWays.{Visited, visited-start, visited-length, visited-few, visited-kept, visited-open, visited-end}
 use Rattle.fixpoint.proofs.passes.pass_function.Statement.{statement}
 use Rattle.fixpoint.proofs.passes.pass_function.Tie as tie
 
 abbrev Inv-loop : tie.InvT-loop
-Inv-loop code ends functions trace table₀ n g start kinds count list first last stored₀ i₀ table stored i =
-    Visited (setup code ends functions trace) n g start table₀ table stored i × (i ≤ last)
+Inv-loop words functions table₀ n g start kinds count list first last stored₀ i₀ table stored i =
+    Visited (setupIn words functions) n g start table₀ table stored i × (i ≤ last)
 
 abbrev μ-loop : tie.MeasureT-loop
-μ-loop code ends functions trace table₀ n g start kinds count list first last stored₀ i₀ table stored i = last - i
+μ-loop words functions table₀ n g start kinds count list first last stored₀ i₀ table stored i = last - i
 
 sized : (c : tie.After-size Inv-loop μ-loop) → let a = c .before .before .before .before .before .before .before .args in c .size .result ≡ sizeOf (a .functions .now) (a .n) (a .g)
 sized c = rw (c .before .before .before .at-most-four .ensures) at (c .size .ensures .0)

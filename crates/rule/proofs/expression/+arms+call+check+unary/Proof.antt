@@ -1,5 +1,12 @@
 -- `check` and the functions that it calls meet their contracts. A node takes 2 of the measure, which is the depth left.
-use Prim.Native.Nat.{ℕ, _<_}
+use Prim.Native.Nat.{ℕ, _+_, _-_, _*_, _<_}
+use mathlib.Core.Path.{_≡_, sym, ap, _∙_}
+use native.Mathlib.Omega.{arith}
+use denote.Ref.{now}
+use borrow.Author.Needs.{needs}
+use Rattle.rule.specs.declared.Node.{Node}
+use Rattle.rule.specs.Walk.{frameIn, few, checkAt, unaryAt, armsAt, callAt, nodeBy}
+use Rattle.rule.proofs.Walking.{params-in, kinds-in, check-end, check-deep, check-node, unary-of, unary-not, call-none, call-not, call-args, Along, along-start, along-end, along-more}
 use borrow.Fn.Kinds.{In}
 use borrow.Fn.PlainCycle.{Measures, is, falls, and}
 use Rattle.rule.proofs.expression.arms.Reads as arms
@@ -14,33 +21,28 @@ use Rattle.rule.proofs.expression.+arms+call+check+unary.Lts-check as c
 use Rattle.rule.proofs.expression.unary.Reads as unary
 use Rattle.rule.proofs.expression.unary.Kinds as unary-kinds
 use Rattle.rule.proofs.expression.+arms+call+check+unary.Lts-unary as unary-lts
-use Rattle.rule.proofs.nodes.node_of.Reads as node-of-reads
-use Rattle.rule.proofs.expression.bit.Reads as bit-reads
+use Rattle.rule.proofs.expression.after_end.Reads as after-end-reads
+use Rattle.rule.proofs.expression.alike.Reads as alike-reads
 use Rattle.rule.proofs.expression.at_most_four.Reads as at-most-four-reads
+use Rattle.rule.proofs.expression.bit.Reads as bit-reads
 use Rattle.rule.proofs.expression.leaf.Reads as leaf-reads
 use Rattle.rule.proofs.expression.param.Reads as param-reads
-use Rattle.rule.proofs.expression.alike.Reads as alike-reads
+use Rattle.rule.proofs.expression.refused.Reads as refused-reads
+use Rattle.rule.proofs.nodes.node_of.Reads as node-of-reads
 use Rattle.rule.proofs.expression.+arms+call+check+unary.{statement}
 use Rattle.rule.proofs.expression.+arms+call+check+unary.Tie.{close}
-use Prim.Native.Nat.{_+_, _-_, _*_}
-use mathlib.Core.Path.{_≡_, refl, sym, ap, _∙_}
-use native.Mathlib.Omega.{arith}
-use borrow.Author.Needs.{needs}
-use Rattle.rule.specs.declared.Node.{Node}
-use Rattle.rule.specs.Walk.{frame, checkAt, unaryAt, armsAt, callAt, nodeBy}
-use Rattle.rule.proofs.Walking.{check-end, check-deep, check-node, unary-of, unary-not, arms-first, arms-second, call-none, call-not, call-args, Along, along-start, along-end, along-next, along-more}
 
 abbrev μ-arms : Measures 3 arms-kinds.ps ℕ
-μ-arms κs a = a .1 .1 .1 .1 .1 .1 .1 .0 * 2 + 1
+μ-arms κs a = a .1 .1 .1 .0 * 2 + 1
 
 abbrev μ-call : Measures 3 call-kinds.ps ℕ
-μ-call κs a = a .1 .1 .1 .1 .1 .1 .1 .0 * 2 + 1
+μ-call κs a = a .1 .1 .1 .0 * 2 + 1
 
 abbrev μ-check : Measures 3 check-kinds.ps ℕ
-μ-check κs a = a .1 .1 .1 .1 .1 .1 .1 .0 * 2
+μ-check κs a = a .1 .1 .1 .0 * 2
 
 abbrev μ-unary : Measures 3 unary-kinds.ps ℕ
-μ-unary κs a = a .1 .1 .1 .1 .1 .1 .1 .1 .0 * 2 + 1
+μ-unary κs a = a .1 .1 .1 .1 .0 * 2 + 1
 
 abbrev arms-at : ℕ → In 3 arms-kinds.ps
 arms-at t = and 3 arms-kinds.ps (is 3 arms-kinds.ps μ-arms t) arms.Pre
@@ -70,71 +72,63 @@ abbrev arms-claims : ℕ → arms-lts.Claims
 arms-claims t = (check-below t, check.Post)
 
 abbrev call-claims : ℕ → call-lts.Claims
-call-claims t = (bit-reads.Asked, bit-reads.Learnt, alike-reads.Asked, alike-reads.Learnt, at-most-four-reads.Asked, at-most-four-reads.Learnt, check-below t, check.Post)
+call-claims t = (refused-reads.Asked, refused-reads.Learnt, bit-reads.Asked, bit-reads.Learnt, alike-reads.Asked, alike-reads.Learnt, at-most-four-reads.Asked, at-most-four-reads.Learnt, check-below t, check.Post)
 
 abbrev check-claims : ℕ → check-lts.Claims
-check-claims t = (node-of-reads.Asked, node-of-reads.Learnt, leaf-reads.Asked, leaf-reads.Learnt, param-reads.Asked, param-reads.Learnt, unary-below t, unary.Post, arms-below t, arms.Post, call-below t, call.Post)
+check-claims t = (after-end-reads.Asked, after-end-reads.Learnt, refused-reads.Asked, refused-reads.Learnt, node-of-reads.Asked, node-of-reads.Learnt, leaf-reads.Asked, leaf-reads.Learnt, param-reads.Asked, param-reads.Learnt, unary-below t, unary.Post, arms-below t, arms.Post, call-below t, call.Post)
 
 abbrev unary-claims : ℕ → unary-lts.Claims
-unary-claims t = (alike-reads.Asked, alike-reads.Learnt, check-below t, check.Post)
-
-abbrev call-Inv-loop : call-lts.InvT-loop
-call-Inv-loop body functions params kinds own-params own-kinds demand depth at callee g signature count i₀ next₀ i next =
-    Along (checkAt (frame body functions params kinds own-params own-kinds) depth) signature count at i next
-
-abbrev call-μ-loop : call-lts.MeasureT-loop
-call-μ-loop body functions params kinds own-params own-kinds demand depth at callee g signature count i₀ next₀ i next = count - i
+unary-claims t = (alike-reads.Asked, alike-reads.Learnt, check-below t, check.Post, refused-reads.Asked, refused-reads.Learnt)
 
 at-node : (t : ℕ) (c : check-lts.After-node-of (check-claims t) (check-at t) check.Post) {k : Node} → c .node-of .result ≡ k →
-    let a = c .before .before .before .before .before .args in
-    let F = frame (a .body .now) (a .functions) (a .params .now) (a .kinds .now) (a .own-params) (a .own-kinds) in
+    let a = c .before .before .before .before .args in
+    let F = frameIn (now (a .body .now)) (a .heads .now) in
     checkAt F (a .depth) (a .list) (a .at) ≡ nodeBy F (checkAt F (a .depth - 1)) (a .list) (a .at + 1) k
 at-node t c q = check-node _ _ _ _ (c .before .before .before .if1 .left) (c .before .before .if2 .left) (sym (c .node-of .ensures) ∙ q)
 
 arms-check-requires : (t : ℕ) → arms-lts.Need-check-requires (arms-claims t) (arms-at t) arms.Post
-arms-check-requires t c κs = (omega arith, omega arith)
-
-arms-enum-known-second : (t : ℕ) → arms-lts.Need-enum-known-second (arms-claims t) (arms-at t) arms.Post
-arms-enum-known-second t c = search needs
+arms-check-requires t c κs = (omega arith, c .pre .1)
 
 arms-check-requires-2 : (t : ℕ) → arms-lts.Need-check-requires-2 (arms-claims t) (arms-at t) arms.Post
-arms-check-requires-2 t c κs = (omega arith, omega arith)
-
-arms-enum-known-third : (t : ℕ) → arms-lts.Need-enum-known-third (arms-claims t) (arms-at t) arms.Post
-arms-enum-known-third t c = search needs
+arms-check-requires-2 t c κs = (omega arith, c .before .pre .1)
 
 arms-check-requires-3 : (t : ℕ) → arms-lts.Need-check-requires-3 (arms-claims t) (arms-at t) arms.Post
-arms-check-requires-3 t c κs = (omega arith, omega arith)
-
-arms-enum-known-refusal : (t : ℕ) → arms-lts.Need-enum-known-refusal (arms-claims t) (arms-at t) arms.Post
-arms-enum-known-refusal t c = search needs
-
-arms-enum-known-refusal-2 : (t : ℕ) → arms-lts.Need-enum-known-refusal-2 (arms-claims t) (arms-at t) arms.Post
-arms-enum-known-refusal-2 t c = search needs
+arms-check-requires-3 t c κs = (omega arith, c .before .before .pre .1)
 
 arms-returns : (t : ℕ) → arms-lts.Need-returns (arms-claims t) (arms-at t) arms.Post
-arms-returns t c = c .check3 .ensures ∙ sym (arms-second _ _ _ _ (sym (c .before .before .before .before .before .before .before .before .check .ensures) ∙ c .before .before .before .before .before .before .second .given .1) (sym (c .before .before .before .before .check2 .ensures) ∙ c .before .before .third .given .1))
+unfolding armsAt
+arms-returns t c = c .check3 .ensures ∙ ap (checkAt _ _ _) (c .before .check2 .ensures ∙ ap (checkAt _ _ _) (c .before .before .check .ensures))
 
-arms-returns-2 : (t : ℕ) → arms-lts.Need-returns-2 (arms-claims t) (arms-at t) arms.Post
-arms-returns-2 t c = sym (arms-second _ _ _ _ (sym (c .before .before .before .before .before .before .before .check .ensures) ∙ c .before .before .before .before .before .second .given .1) (sym (c .before .before .before .check2 .ensures) ∙ c .before .refusal .given .1))
+abbrev call-Inv-loop : call-lts.InvT-loop
+call-Inv-loop body heads demand depth at callee g signature count i₀ next₀ i next =
+    Along (checkAt (frameIn (now body) heads) depth) signature count at i next
 
-arms-returns-3 : (t : ℕ) → arms-lts.Need-returns-3 (arms-claims t) (arms-at t) arms.Post
-arms-returns-3 t c = sym (arms-first _ _ _ _ (sym (c .before .before .before .check .ensures) ∙ c .before .refusal2 .given .1))
+abbrev call-μ-loop : call-lts.MeasureT-loop
+call-μ-loop body heads demand depth at callee g signature count i₀ next₀ i next = count - i
+
+call-element-copy-out-if1 : (t : ℕ) → call-lts.Need-element-copy-out-if1 (call-claims t) (call-at t) call.Post call-Inv-loop call-μ-loop
+call-element-copy-out-if1 t c = omega arith
+
+call-refused-requires : (t : ℕ) → call-lts.Need-refused-requires (call-claims t) (call-at t) call.Post call-Inv-loop call-μ-loop
+call-refused-requires t c κs = search needs
 
 call-returns : (t : ℕ) → call-lts.Need-returns (call-claims t) (call-at t) call.Post call-Inv-loop call-μ-loop
-call-returns t c = sym (call-none _ _ _ _ _ (c .if1 .taken))
+call-returns t c = c .refused .ensures ∙ sym (call-none _ _ _ _ _ (c .before .if1 .taken))
+
+call-add-signature : (t : ℕ) → call-lts.Need-add-signature (call-claims t) (call-at t) call.Post call-Inv-loop call-μ-loop
+call-add-signature t c = omega arith
 
 call-element-copy-out-signature : (t : ℕ) → call-lts.Need-element-copy-out-signature (call-claims t) (call-at t) call.Post call-Inv-loop call-μ-loop
-call-element-copy-out-signature t c = omega arith
+call-element-copy-out-signature t c = omega (arith, c .before .before .pre .1 .few)
 
 call-bit-requires : (t : ℕ) → call-lts.Need-bit-requires (call-claims t) (call-at t) call.Post call-Inv-loop call-μ-loop
-call-bit-requires t c κs = omega arith
+call-bit-requires t c κs = search needs
 
 call-alike-requires : (t : ℕ) → call-lts.Need-alike-requires (call-claims t) (call-at t) call.Post call-Inv-loop call-μ-loop
 call-alike-requires t c κs = search needs
 
 call-element-copy-out-at-most-four : (t : ℕ) → call-lts.Need-element-copy-out-at-most-four (call-claims t) (call-at t) call.Post call-Inv-loop call-μ-loop
-call-element-copy-out-at-most-four t c = omega arith
+call-element-copy-out-at-most-four t c = omega (arith, c .before .before .before .before .before .before .pre .1 .few)
 
 call-at-most-four-requires : (t : ℕ) → call-lts.Need-at-most-four-requires (call-claims t) (call-at t) call.Post call-Inv-loop call-μ-loop
 call-at-most-four-requires t c κs = search needs
@@ -143,19 +137,10 @@ call-loop-holds : (t : ℕ) → call-lts.Need-loop-holds (call-claims t) (call-a
 call-loop-holds t c = along-start _ _ _ _
 
 call-bit-requires-2 : (t : ℕ) → call-lts.Need-bit-requires-2 (call-claims t) (call-at t) call.Post call-Inv-loop call-μ-loop
-call-bit-requires-2 t c κs = omega arith
+call-bit-requires-2 t c κs = search needs
 
 call-check-requires : (t : ℕ) → call-lts.Need-check-requires (call-claims t) (call-at t) call.Post call-Inv-loop call-μ-loop
-call-check-requires t c κs = (omega arith, omega arith)
-
-call-enum-known-after : (t : ℕ) → call-lts.Need-enum-known-after (call-claims t) (call-at t) call.Post call-Inv-loop call-μ-loop
-call-enum-known-after t c = search needs
-
-call-enum-known-refusal : (t : ℕ) → call-lts.Need-enum-known-refusal (call-claims t) (call-at t) call.Post call-Inv-loop call-μ-loop
-call-enum-known-refusal t c = search needs
-
-call-returns-2 : (t : ℕ) → call-lts.Need-returns-2 (call-claims t) (call-at t) call.Post call-Inv-loop call-μ-loop
-call-returns-2 t c = sym (call-args _ _ _ _ _ (c .before .before .before .before .before .before .before .before .before .before .before .before .before .if1 .left) (c .before .before .before .before .before .before .before .before .before .before .before .bit .ensures) (c .before .before .before .before .before .before .before .before .before .before .alike .ensures) (c .before .before .before .before .before .before .before .before .before .if2 .taken) (c .before .before .before .before .before .before .before .at-most-four .ensures .0) ∙ along-next (c .before .before .before .before .before .before .loop .inv) (c .before .before .before .before .before .loop-test .taken) (c .before .before .before .before .bit2 .ensures) (sym (c .before .before .before .check .ensures) ∙ c .before .refusal .given .1))
+call-check-requires t c κs = (omega arith, c .before .before .before .before .before .before .before .before .before .before .before .pre .1)
 
 call-add-i : (t : ℕ) → call-lts.Need-add-i (call-claims t) (call-at t) call.Post call-Inv-loop call-μ-loop
 call-add-i t c = omega arith
@@ -164,28 +149,43 @@ call-loop-less : (t : ℕ) → call-lts.Need-loop-less (call-claims t) (call-at 
 call-loop-less t c = omega arith
 
 call-loop-again : (t : ℕ) → call-lts.Need-loop-again (call-claims t) (call-at t) call.Post call-Inv-loop call-μ-loop
-call-loop-again t c = along-more (c .before .before .before .before .before .before .loop .inv) (c .before .before .before .before .before .loop-test .taken) (c .before .before .before .before .bit2 .ensures) (sym (c .before .before .before .check .ensures) ∙ c .before .after .given .1)
+call-loop-again t c = along-more (c .before .before .before .loop .inv) (c .before .before .loop-test .taken) (c .before .bit2 .ensures) (c .check .ensures)
+
+call-refused-requires-2 : (t : ℕ) → call-lts.Need-refused-requires-2 (call-claims t) (call-at t) call.Post call-Inv-loop call-μ-loop
+call-refused-requires-2 t c κs = search needs
+
+call-returns-2 : (t : ℕ) → call-lts.Need-returns-2 (call-claims t) (call-at t) call.Post call-Inv-loop call-μ-loop
+call-returns-2 t c =
+    let a = c .before .before .before .before .before .before .before .before .before .before .args in
+    let below : a .callee < 32 = omega (arith, c .before .before .before .before .before .before .before .before .before .before .pre .1 .few) in
+    sym (call-args _ _ _ _ _ (kinds-in (a .heads .now) (a .callee) below) (c .before .before .before .before .before .before .before .before .if1 .left) (c .before .before .before .before .before .before .bit .ensures) (c .before .before .before .before .before .alike .ensures) (c .before .before .before .before .if2 .taken) (c .before .before .at-most-four .ensures .0 ∙ ap few (params-in (a .heads .now) (a .callee) below)) ∙ along-end (c .before .loop .inv) (c .loop-test .left))
 
 call-returns-3 : (t : ℕ) → call-lts.Need-returns-3 (call-claims t) (call-at t) call.Post call-Inv-loop call-μ-loop
-call-returns-3 t c = sym (call-args _ _ _ _ _ (c .before .before .before .before .before .before .before .before .if1 .left) (c .before .before .before .before .before .before .bit .ensures) (c .before .before .before .before .before .alike .ensures) (c .before .before .before .before .if2 .taken) (c .before .before .at-most-four .ensures .0) ∙ along-end (c .before .loop .inv) (c .loop-test .left))
+call-returns-3 t c =
+    let a = c .before .before .before .before .before .before .before .args in
+    let below : a .callee < 32 = omega (arith, c .before .before .before .before .before .before .before .pre .1 .few) in
+    c .refused2 .ensures ∙ sym (call-not _ _ _ _ _ (kinds-in (a .heads .now) (a .callee) below) (c .before .before .before .before .before .if1 .left) (c .before .before .before .bit .ensures) (c .before .before .alike .ensures) (c .before .if2 .left))
 
-call-returns-4 : (t : ℕ) → call-lts.Need-returns-4 (call-claims t) (call-at t) call.Post call-Inv-loop call-μ-loop
-call-returns-4 t c = sym (call-not _ _ _ _ _ (c .before .before .before .before .if1 .left) (c .before .before .bit .ensures) (c .before .alike .ensures) (c .if2 .left))
+check-after-end-requires : (t : ℕ) → check-lts.Need-after-end-requires (check-claims t) (check-at t) check.Post
+check-after-end-requires t c κs = search needs
 
 check-returns : (t : ℕ) → check-lts.Need-returns (check-claims t) (check-at t) check.Post
-check-returns t c = sym (check-end _ _ _ _ (c .if1 .taken))
+check-returns t c = c .after-end .ensures ∙ sym (check-end _ _ _ _ (c .before .if1 .taken))
+
+check-refused-requires : (t : ℕ) → check-lts.Need-refused-requires (check-claims t) (check-at t) check.Post
+check-refused-requires t c κs = search needs
 
 check-returns-2 : (t : ℕ) → check-lts.Need-returns-2 (check-claims t) (check-at t) check.Post
-check-returns-2 t c = sym (check-deep _ _ _ _ (c .before .if1 .left) (c .if2 .taken))
+check-returns-2 t c = c .refused .ensures ∙ sym (check-deep _ _ _ _ (c .before .before .if1 .left) (c .before .if2 .taken))
 
 check-sub-left : (t : ℕ) → check-lts.Need-sub-left (check-claims t) (check-at t) check.Post
 check-sub-left t c = omega arith
 
 check-add-next : (t : ℕ) → check-lts.Need-add-next (check-claims t) (check-at t) check.Post
-check-add-next t c = omega arith
+check-add-next t c = omega (arith, c .before .before .pre .1 .short)
 
-check-shared-slice-read-node-of : (t : ℕ) → check-lts.Need-shared-slice-read-node-of (check-claims t) (check-at t) check.Post
-check-shared-slice-read-node-of t c = omega arith
+check-index-1-node-of : (t : ℕ) → check-lts.Need-index-1-node-of (check-claims t) (check-at t) check.Post
+check-index-1-node-of t c = omega arith
 
 check-node-of-requires : (t : ℕ) → check-lts.Need-node-of-requires (check-claims t) (check-at t) check.Post
 check-node-of-requires t c κs = search needs
@@ -211,44 +211,56 @@ check-leaf-requires-3 t c κs = search needs
 check-enum-known-i : (t : ℕ) → check-lts.Need-enum-known-i (check-claims t) (check-at t) check.Post
 check-enum-known-i t c = search needs
 
+check-element-copy-out-param : (t : ℕ) → check-lts.Need-element-copy-out-param (check-claims t) (check-at t) check.Post
+check-element-copy-out-param t c = omega arith
+
+check-element-copy-out-param-2 : (t : ℕ) → check-lts.Need-element-copy-out-param-2 (check-claims t) (check-at t) check.Post
+check-element-copy-out-param-2 t c = omega arith
+
 check-param-requires : (t : ℕ) → check-lts.Need-param-requires (check-claims t) (check-at t) check.Post
-check-param-requires t c κs = search needs
+check-param-requires t c κs = c .before .before .before .before .before .before .before .before .before .pre .1 .own
 
 check-enum-told-4 : (t : ℕ) → check-lts.Need-enum-told-4 (check-claims t) (check-at t) check.Post
 check-enum-told-4 t c = search needs
 
 check-unary-requires : (t : ℕ) → check-lts.Need-unary-requires (check-claims t) (check-at t) check.Post
-check-unary-requires t c κs = (omega arith, omega arith)
+check-unary-requires t c κs = (omega arith, c .before .before .before .before .before .before .pre .1)
 
 check-enum-told-5 : (t : ℕ) → check-lts.Need-enum-told-5 (check-claims t) (check-at t) check.Post
 check-enum-told-5 t c = search needs
 
 check-unary-requires-2 : (t : ℕ) → check-lts.Need-unary-requires-2 (check-claims t) (check-at t) check.Post
-check-unary-requires-2 t c κs = (omega arith, omega arith)
+check-unary-requires-2 t c κs = (omega arith, c .before .before .before .before .before .before .pre .1)
 
 check-enum-told-6 : (t : ℕ) → check-lts.Need-enum-told-6 (check-claims t) (check-at t) check.Post
 check-enum-told-6 t c = search needs
 
 check-unary-requires-3 : (t : ℕ) → check-lts.Need-unary-requires-3 (check-claims t) (check-at t) check.Post
-check-unary-requires-3 t c κs = (omega arith, omega arith)
+check-unary-requires-3 t c κs = (omega arith, c .before .before .before .before .before .before .pre .1)
 
 check-enum-told-7 : (t : ℕ) → check-lts.Need-enum-told-7 (check-claims t) (check-at t) check.Post
 check-enum-told-7 t c = search needs
 
 check-arms-requires : (t : ℕ) → check-lts.Need-arms-requires (check-claims t) (check-at t) check.Post
-check-arms-requires t c κs = (omega arith, omega arith)
+check-arms-requires t c κs = (omega arith, c .before .before .before .before .before .before .pre .1)
 
 check-enum-told-8 : (t : ℕ) → check-lts.Need-enum-told-8 (check-claims t) (check-at t) check.Post
 check-enum-told-8 t c = search needs
+
+check-refused-requires-2 : (t : ℕ) → check-lts.Need-refused-requires-2 (check-claims t) (check-at t) check.Post
+check-refused-requires-2 t c κs = search needs
 
 check-enum-known-g : (t : ℕ) → check-lts.Need-enum-known-g (check-claims t) (check-at t) check.Post
 check-enum-known-g t c = search needs
 
 check-call-requires : (t : ℕ) → check-lts.Need-call-requires (check-claims t) (check-at t) check.Post
-check-call-requires t c κs = (omega arith, omega arith)
+check-call-requires t c κs = (omega arith, c .before .before .before .before .before .before .before .pre .1)
 
 check-enum-told-9 : (t : ℕ) → check-lts.Need-enum-told-9 (check-claims t) (check-at t) check.Post
 check-enum-told-9 t c = search needs
+
+check-refused-requires-3 : (t : ℕ) → check-lts.Need-refused-requires-3 (check-claims t) (check-at t) check.Post
+check-refused-requires-3 t c κs = search needs
 
 check-returns-3 : (t : ℕ) → check-lts.Need-returns-3 (check-claims t) (check-at t) check.Post
 check-returns-3 t c = c .leaf .ensures ∙ sym (at-node t (c .before .before .before) (c .before .enum-told .given .1))
@@ -260,7 +272,7 @@ check-returns-5 : (t : ℕ) → check-lts.Need-returns-5 (check-claims t) (check
 check-returns-5 t c = c .leaf3 .ensures ∙ sym (at-node t (c .before .before .before) (c .before .enum-told3 .given .1))
 
 check-returns-6 : (t : ℕ) → check-lts.Need-returns-6 (check-claims t) (check-at t) check.Post
-check-returns-6 t c = c .param .ensures ∙ sym (at-node t (c .before .before .before .before) (c .before .before .i .given .1))
+check-returns-6 t c = c .param .ensures ∙ sym (at-node t (c .before .before .before .before .before .before) (c .before .before .before .before .i .given .1))
 
 check-returns-7 : (t : ℕ) → check-lts.Need-returns-7 (check-claims t) (check-at t) check.Post
 unfolding unaryAt
@@ -279,30 +291,33 @@ unfolding armsAt
 check-returns-10 t c = c .arms .ensures ∙ sym (at-node t (c .before .before .before) (c .before .enum-told7 .given .1))
 
 check-returns-11 : (t : ℕ) → check-lts.Need-returns-11 (check-claims t) (check-at t) check.Post
-check-returns-11 t c = sym (at-node t (c .before .before) (c .enum-told8 .given .1))
+check-returns-11 t c = c .refused2 .ensures ∙ sym (at-node t (c .before .before .before) (c .before .enum-told8 .given .1))
 
 check-returns-12 : (t : ℕ) → check-lts.Need-returns-12 (check-claims t) (check-at t) check.Post
 unfolding callAt
 check-returns-12 t c = c .call .ensures ∙ sym (at-node t (c .before .before .before .before) (c .before .before .g .given .1))
 
 check-returns-13 : (t : ℕ) → check-lts.Need-returns-13 (check-claims t) (check-at t) check.Post
-check-returns-13 t c = sym (at-node t (c .before .before) (c .enum-told9 .given .1))
+check-returns-13 t c = c .refused3 .ensures ∙ sym (at-node t (c .before .before .before) (c .before .enum-told9 .given .1))
 
 unary-alike-requires : (t : ℕ) → unary-lts.Need-alike-requires (unary-claims t) (unary-at t) unary.Post
 unary-alike-requires t c κs = search needs
 
 unary-check-requires : (t : ℕ) → unary-lts.Need-check-requires (unary-claims t) (unary-at t) unary.Post
-unary-check-requires t c κs = (omega arith, omega arith)
+unary-check-requires t c κs = (omega arith, c .before .before .pre .1)
+
+unary-refused-requires : (t : ℕ) → unary-lts.Need-refused-requires (unary-claims t) (unary-at t) unary.Post
+unary-refused-requires t c κs = search needs
 
 unary-returns : (t : ℕ) → unary-lts.Need-returns (unary-claims t) (unary-at t) unary.Post
 unary-returns t c = c .check .ensures ∙ sym (unary-of _ _ _ _ _ (c .before .before .alike .ensures) (c .before .if1 .taken))
 
 unary-returns-2 : (t : ℕ) → unary-lts.Need-returns-2 (unary-claims t) (unary-at t) unary.Post
-unary-returns-2 t c = sym (unary-not _ _ _ _ _ (c .before .alike .ensures) (c .if1 .left))
+unary-returns-2 t c = c .refused .ensures ∙ sym (unary-not _ _ _ _ _ (c .before .before .alike .ensures) (c .before .if1 .left))
 
 pub +arms+call+check+unary-spec : {M : Type 1} → statement M
 +arms+call+check+unary-spec = close μ-arms μ-call μ-check μ-unary
-    (λ t. arms-lts.spec (arms-claims t) (arms-at t) arms.Post (arms-check-requires t) (arms-enum-known-second t) (arms-check-requires-2 t) (arms-enum-known-third t) (arms-check-requires-3 t) (arms-enum-known-refusal t) (arms-enum-known-refusal-2 t) (arms-returns t) (arms-returns-2 t) (arms-returns-3 t))
-    (λ t. call-lts.spec (call-claims t) (call-at t) call.Post call-Inv-loop call-μ-loop (call-returns t) (call-element-copy-out-signature t) (call-bit-requires t) (call-alike-requires t) (call-element-copy-out-at-most-four t) (call-at-most-four-requires t) (call-loop-holds t) (call-bit-requires-2 t) (call-check-requires t) (call-enum-known-after t) (call-enum-known-refusal t) (call-returns-2 t) (call-add-i t) (call-loop-less t) (call-loop-again t) (call-returns-3 t) (call-returns-4 t))
-    (λ t. check-lts.spec (check-claims t) (check-at t) check.Post (check-returns t) (check-returns-2 t) (check-sub-left t) (check-add-next t) (check-shared-slice-read-node-of t) (check-node-of-requires t) (check-enum-told t) (check-leaf-requires t) (check-enum-told-2 t) (check-leaf-requires-2 t) (check-enum-told-3 t) (check-leaf-requires-3 t) (check-enum-known-i t) (check-param-requires t) (check-enum-told-4 t) (check-unary-requires t) (check-enum-told-5 t) (check-unary-requires-2 t) (check-enum-told-6 t) (check-unary-requires-3 t) (check-enum-told-7 t) (check-arms-requires t) (check-enum-told-8 t) (check-enum-known-g t) (check-call-requires t) (check-enum-told-9 t) (check-returns-3 t) (check-returns-4 t) (check-returns-5 t) (check-returns-6 t) (check-returns-7 t) (check-returns-8 t) (check-returns-9 t) (check-returns-10 t) (check-returns-11 t) (check-returns-12 t) (check-returns-13 t))
-    (λ t. unary-lts.spec (unary-claims t) (unary-at t) unary.Post (unary-alike-requires t) (unary-check-requires t) (unary-returns t) (unary-returns-2 t))
+    (λ t. arms-lts.spec (arms-claims t) (arms-at t) arms.Post (arms-check-requires t) (arms-check-requires-2 t) (arms-check-requires-3 t) (arms-returns t))
+    (λ t. call-lts.spec (call-claims t) (call-at t) call.Post call-Inv-loop call-μ-loop (call-element-copy-out-if1 t) (call-refused-requires t) (call-returns t) (call-add-signature t) (call-element-copy-out-signature t) (call-bit-requires t) (call-alike-requires t) (call-element-copy-out-at-most-four t) (call-at-most-four-requires t) (call-loop-holds t) (call-bit-requires-2 t) (call-check-requires t) (call-add-i t) (call-loop-less t) (call-loop-again t) (call-refused-requires-2 t) (call-returns-2 t) (call-returns-3 t))
+    (λ t. check-lts.spec (check-claims t) (check-at t) check.Post (check-after-end-requires t) (check-returns t) (check-refused-requires t) (check-returns-2 t) (check-sub-left t) (check-add-next t) (check-index-1-node-of t) (check-node-of-requires t) (check-enum-told t) (check-leaf-requires t) (check-enum-told-2 t) (check-leaf-requires-2 t) (check-enum-told-3 t) (check-leaf-requires-3 t) (check-enum-known-i t) (check-element-copy-out-param t) (check-element-copy-out-param-2 t) (check-param-requires t) (check-enum-told-4 t) (check-unary-requires t) (check-enum-told-5 t) (check-unary-requires-2 t) (check-enum-told-6 t) (check-unary-requires-3 t) (check-enum-told-7 t) (check-arms-requires t) (check-enum-told-8 t) (check-refused-requires-2 t) (check-enum-known-g t) (check-call-requires t) (check-enum-told-9 t) (check-refused-requires-3 t) (check-returns-3 t) (check-returns-4 t) (check-returns-5 t) (check-returns-6 t) (check-returns-7 t) (check-returns-8 t) (check-returns-9 t) (check-returns-10 t) (check-returns-11 t) (check-returns-12 t) (check-returns-13 t))
+    (λ t. unary-lts.spec (unary-claims t) (unary-at t) unary.Post (unary-alike-requires t) (unary-check-requires t) (unary-refused-requires t) (unary-returns t) (unary-returns-2 t))

@@ -1,10 +1,11 @@
 -- `check_bodies` meets its contract. Before turn i the bodies before it have passed.
-use mathlib.Core.Path.{sym, _∙_}
+use mathlib.Core.Path.{sym, ap, _∙_}
+use mathlib.Core.List.{[]}
 use Prim.Native.Nat.{_-_}
 use native.Mathlib.Omega.{arith}
 use borrow.Author.Needs.{needs}
-use Rattle.rule.specs.Walk.{frameAt}
-use Rattle.rule.proofs.BodyWays.{Going, going-start, going-stop, going-more, going-end}
+use Rattle.rule.specs.Walk.{Frame, frameAt, bodyAt}
+use Rattle.rule.proofs.BodyWays.{part-short, Going, going-start, going-stop, going-more, going-end}
 use Rattle.rule.proofs.functions.check_bodies.Statement.{statement}
 use Rattle.rule.proofs.functions.check_bodies.Tie as tie
 
@@ -44,20 +45,33 @@ part-body-start c = c .before .before .before .before .before .pre .ordered (c .
 part-body-end : tie.Need-part-body-end Inv-loop μ-loop
 part-body-end c = c .before .before .before .before .before .pre .within (c .before .before .before .loop .i) (c .before .before .loop-test .taken)
 
-element-copy-out-check-body : tie.Need-element-copy-out-check-body Inv-loop μ-loop
-element-copy-out-check-body c = omega arith
+element-copy-out-heads-of : tie.Need-element-copy-out-heads-of Inv-loop μ-loop
+element-copy-out-heads-of c = omega arith
 
-element-copy-out-check-body-2 : tie.Need-element-copy-out-check-body-2 Inv-loop μ-loop
-element-copy-out-check-body-2 c = omega arith
+element-copy-out-heads-of-2 : tie.Need-element-copy-out-heads-of-2 Inv-loop μ-loop
+element-copy-out-heads-of-2 c = omega arith
+
+heads-of-requires : tie.Need-heads-of-requires Inv-loop μ-loop
+heads-of-requires c κs = search needs
 
 check-body-requires : tie.Need-check-body-requires Inv-loop μ-loop
-check-body-requires c κs = (c .before .before .before .before .before .before .before .before .pre .few, c .before .before .before .before .before .before .before .before .pre .small (c .before .before .before .before .before .before .loop .i) (c .before .before .before .before .before .loop-test .taken))
+check-body-requires c κs =
+    let start = c .before .before .before .before .before .before .before .before .before .before in
+    let a = start .args in
+    let i = c .before .before .before .before .before .before .before .before .loop .i in
+    let h = c .before .before .before .before .before .before .before .loop-test .taken in
+    let F = c .before .heads-of .ensures [] in
+    record {
+      short = omega (arith, part-short (a .program .now) (start .pre .ordered i h) (start .pre .within i h), start .pre .short);
+      few = omega (arith, ap (λ (f : Frame). f .functions) F, start .pre .few);
+      own = omega (arith, ap (λ (f : Frame). f .ownParams) F, start .pre .small i h);
+    }
 
 enum-known-refusal : tie.Need-enum-known-refusal Inv-loop μ-loop
 enum-known-refusal c = search needs
 
 returns : tie.Need-returns Inv-loop μ-loop
-returns c = going-stop (c .before .before .before .before .before .before .before .before .before .before .loop .inv) (c .before .before .before .before .before .before .before .before .before .loop-test .taken) (sym (c .before .before .before .check-body .ensures) ∙ c .before .refusal .given .1)
+returns c = going-stop (c .before .before .before .before .before .before .before .before .before .before .before .before .loop .inv) (c .before .before .before .before .before .before .before .before .before .before .before .loop-test .taken) (sym (c .before .before .before .check-body .ensures ∙ ap bodyAt (c .before .before .before .before .before .heads-of .ensures _)) ∙ c .before .refusal .given .1)
 
 enum-told : tie.Need-enum-told Inv-loop μ-loop
 enum-told c = search needs
@@ -69,7 +83,7 @@ loop-less : tie.Need-loop-less Inv-loop μ-loop
 loop-less c = omega arith
 
 loop-again : tie.Need-loop-again Inv-loop μ-loop
-loop-again c = going-more (c .before .before .before .before .before .before .before .before .before .loop .inv) (c .before .before .before .before .before .before .before .before .loop-test .taken) (sym (c .before .before .check-body .ensures) ∙ c .enum-told .given .1)
+loop-again c = going-more (c .before .before .before .before .before .before .before .before .before .before .before .loop .inv) (c .before .before .before .before .before .before .before .before .before .before .loop-test .taken) (sym (c .before .before .check-body .ensures ∙ ap bodyAt (c .before .before .before .before .heads-of .ensures _)) ∙ c .enum-told .given .1)
 
 returns-2 : tie.Need-returns-2 Inv-loop μ-loop
 returns-2 c = going-end (c .before .loop .inv) (c .loop-test .left)
@@ -90,8 +104,9 @@ check-bodies-spec =
     sub-body
     part-body-start
     part-body-end
-    element-copy-out-check-body
-    element-copy-out-check-body-2
+    element-copy-out-heads-of
+    element-copy-out-heads-of-2
+    heads-of-requires
     check-body-requires
     enum-known-refusal
     returns

@@ -1,6 +1,5 @@
 -- `check_functions` meets its contract: the headers, 10, 11, then the bodies.
 use mathlib.Core.Path.{_≡_, sym, _∙_}
-use mathlib.Core.Bool.{Bool}
 use borrow.Author.Needs.{needs}
 use Rattle.rule.specs.Reading.{mainFirst, headers}
 use Rattle.rule.proofs.ProgramWays.{answer-refused}
