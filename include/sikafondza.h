@@ -5,7 +5,7 @@
  * answer included. A function reads and writes nothing but the memory that it is lent, and keeps no pointer
  * to it. A pointer to no elements may be null. What is lent for reading must not change during the call, and
  * what is lent for writing must overlap nothing else that is lent to the same call. The functions keep no
- * state of their own, so calls on different memory may run at the same time. A call takes at most about 33 KB of
+ * state of their own, so calls on different memory may run at the same time. A call takes at most about 29 KB of
  * stack (measured on x86-64).
  *
  * Link with libgateway.a (`make lib` puts it with this file under build/).

@@ -1,6 +1,7 @@
 -- Laws of the mirror, one for each way through the code:
 --   lookup-far, lookup-beyond, lookup-held       what the table holds: a first cell or a number too large, a cell
 --   eval-deep, eval-past, eval-node, eval-param  an expression: no depth left, no byte, a node, a parameter's byte
+--   eval-truth                                   a Bool's byte
 --   eval-head, eval-tail, eval-null              an operation's byte
 --   branch-true, branch-false, branch-other      a condition and two branches
 --   call-none, call-args                         a call
@@ -18,7 +19,7 @@ use Rattle.semantics.specs.Language.{hd, tl, null}
 use Rattle.rule.specs.declared.Node.{Node}
 use Rattle.rule.specs.declared.Node.the-variants as node
 use Rattle.rule.specs.Reading.{nodeOf}
-use Rattle.rule.proofs.NodeBytes.{node-param, node-op}
+use Rattle.rule.proofs.NodeBytes.{node-false, node-true, node-param, node-op}
 use Rattle.fixpoint.proofs.SetupLoops.{few-bound}
 use Rattle.fixpoint.specs.Mirror.{Setup, headOf, tailOf, nullOf, heldCode, digitCode, radixOf, bound, nextIndex, firstOf, kindsOf, countOf, paramAt, endAt, lookupAt, stops, argsAt, nodeBy, evalAt, branchAt, callAt}
 
@@ -65,6 +66,14 @@ module _ (S : Setup) (table env : List ℕ) (d at : ℕ) where
 
     pub eval-param : 0x10 ≤ b → b < 0x14 → evalAt S table env d at ≡ paramAt env (b - 0x10)
     eval-param l m = eval-node (param-byte b l m)
+
+    pub eval-truth : b < 2 → evalAt S table env d at ≡ b + 1
+    eval-truth l = go b refl l
+      where
+        go : (c : ℕ) → b ≡ c → c < 2 → evalAt S table env d at ≡ c + 1
+        go zero q l = eval-node (ap nodeOf q ∙ node-false)
+        go (suc zero) q l = eval-node (ap nodeOf q ∙ node-true)
+        go (suc (suc c)) q l = absurd (omega arith)
 
     pub eval-head : b ≡ 0x20 → {v : ℕ} → v ≡ evalAt S table env (d - 1) (at + 1) → evalAt S table env d at ≡ headOf (S .trace) (getD env 4 0) v
     eval-head q o = eval-node (ap nodeOf q ∙ node-op hd) ∙ ap (λ (w : ℕ). headOf (S .trace) (getD env 4 0) w) (sym o)

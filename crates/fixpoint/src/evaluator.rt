@@ -77,7 +77,7 @@ fn node(
     }
 }
 
-// As eval; a parameter is read at once.
+// As eval; a parameter is read at once, and so is a Bool.
 fn operand(
     words: &[u16; WORDS],
     functions: &[u64; 96],
@@ -95,9 +95,12 @@ fn operand(
         return 0;
     }
     let code = setup::byte_at(words, at);
-    if 16 <= code {
-        if code < 20 {
+    if code < 20 {
+        if 16 <= code {
             return param(env, code - 16);
+        }
+        if code < 2 {
+            return (code as u16) + 1;
         }
     }
     node(words, functions, table, env, depth, at)
@@ -139,6 +142,29 @@ fn simple(
     operand(words, functions, table, env, depth, at)
 }
 
+// As eval, for a condition: an if or a call is taken at once.
+fn condition(
+    words: &[u16; WORDS],
+    functions: &[u64; 96],
+    table: &&[u16],
+    env: &[u16; 5],
+    depth: u8,
+    at: usize,
+) -> u16
+    ensures { λ r. ⌜ r ≡ evalAt (setupIn (now (words .entry)) (now (functions .entry))) (now (now (table .entry))) (now (env .entry)) depth at ⌝ }
+{
+    if depth == 0 {
+        return 0;
+    }
+    if ENDS <= at {
+        return 0;
+    }
+    if 34 < setup::byte_at(words, at) {
+        return node(words, functions, table, env, depth, at);
+    }
+    simple(words, functions, table, env, depth, at)
+}
+
 // A condition, and the branch that it chooses; the other is stepped over.
 fn branch(
     words: &[u16; WORDS],
@@ -150,12 +176,12 @@ fn branch(
 ) -> u16
     ensures { λ r. ⌜ r ≡ branchAt (setupIn (now (words .entry)) (now (functions .entry))) (now (now (table .entry))) (now (env .entry)) depth at ⌝ }
 {
-    let condition = simple(words, functions, table, env, depth, at);
+    let chosen = condition(words, functions, table, env, depth, at);
     let first = setup::end_at(words, at) as usize;
-    if condition == 2 {
+    if chosen == 2 {
         return eval(words, functions, table, env, depth, first);
     }
-    if condition == 1 {
+    if chosen == 1 {
         return eval(
             words,
             functions,
@@ -165,7 +191,7 @@ fn branch(
             setup::end_at(words, first) as usize,
         );
     }
-    condition
+    chosen
 }
 
 // A call: its arguments left to right, then what the table holds for the callee on them.

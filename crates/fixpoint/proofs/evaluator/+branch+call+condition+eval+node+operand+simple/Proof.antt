@@ -1,25 +1,28 @@
--- `eval` and the functions that it calls meet their contracts. A node takes 4 of the measure, which is the depth left.
+-- `eval` and the functions that it calls meet their contracts. A node takes 5 of the measure, which is the depth left.
 use Prim.Native.Nat.{ℕ, _<_}
 use borrow.Fn.Kinds.{In}
 use borrow.Fn.PlainCycle.{Measures, is, falls, and}
 use Rattle.fixpoint.proofs.evaluator.branch.Reads as branch
 use Rattle.fixpoint.proofs.evaluator.branch.Kinds as branch-kinds
-use Rattle.fixpoint.proofs.evaluator.+branch+call+eval+node+operand+simple.Lts-branch as branch-lts
+use Rattle.fixpoint.proofs.evaluator.+branch+call+condition+eval+node+operand+simple.Lts-branch as branch-lts
 use Rattle.fixpoint.proofs.evaluator.call.Reads as call
 use Rattle.fixpoint.proofs.evaluator.call.Kinds as call-kinds
-use Rattle.fixpoint.proofs.evaluator.+branch+call+eval+node+operand+simple.Lts-call as call-lts
+use Rattle.fixpoint.proofs.evaluator.+branch+call+condition+eval+node+operand+simple.Lts-call as call-lts
+use Rattle.fixpoint.proofs.evaluator.condition.Reads as condition
+use Rattle.fixpoint.proofs.evaluator.condition.Kinds as condition-kinds
+use Rattle.fixpoint.proofs.evaluator.+branch+call+condition+eval+node+operand+simple.Lts-condition as condition-lts
 use Rattle.fixpoint.proofs.evaluator.eval.Reads as eval
 use Rattle.fixpoint.proofs.evaluator.eval.Kinds as eval-kinds
-use Rattle.fixpoint.proofs.evaluator.+branch+call+eval+node+operand+simple.Lts-eval as eval-lts
+use Rattle.fixpoint.proofs.evaluator.+branch+call+condition+eval+node+operand+simple.Lts-eval as eval-lts
 use Rattle.fixpoint.proofs.evaluator.node.Reads as node
 use Rattle.fixpoint.proofs.evaluator.node.Kinds as node-kinds
-use Rattle.fixpoint.proofs.evaluator.+branch+call+eval+node+operand+simple.Lts-node as node-lts
+use Rattle.fixpoint.proofs.evaluator.+branch+call+condition+eval+node+operand+simple.Lts-node as node-lts
 use Rattle.fixpoint.proofs.evaluator.operand.Reads as operand
 use Rattle.fixpoint.proofs.evaluator.operand.Kinds as operand-kinds
-use Rattle.fixpoint.proofs.evaluator.+branch+call+eval+node+operand+simple.Lts-operand as operand-lts
+use Rattle.fixpoint.proofs.evaluator.+branch+call+condition+eval+node+operand+simple.Lts-operand as operand-lts
 use Rattle.fixpoint.proofs.evaluator.simple.Reads as simple
 use Rattle.fixpoint.proofs.evaluator.simple.Kinds as simple-kinds
-use Rattle.fixpoint.proofs.evaluator.+branch+call+eval+node+operand+simple.Lts-simple as simple-lts
+use Rattle.fixpoint.proofs.evaluator.+branch+call+condition+eval+node+operand+simple.Lts-simple as simple-lts
 use Rattle.fixpoint.proofs.codes.at_most_four.Reads as at-most-four-reads
 use Rattle.fixpoint.proofs.codes.bit.Reads as bit-reads
 use Rattle.fixpoint.proofs.codes.digit.Reads as digit-reads
@@ -33,33 +36,36 @@ use Rattle.fixpoint.proofs.setup.end_at.Reads as end-at-reads
 use Rattle.fixpoint.proofs.evaluator.lookup.Reads as lookup-reads
 use Rattle.fixpoint.proofs.evaluator.param.Reads as param-reads
 use Rattle.rule.proofs.node_of.Reads as node-of-reads
-use Rattle.fixpoint.proofs.evaluator.+branch+call+eval+node+operand+simple.{statement}
-use Rattle.fixpoint.proofs.evaluator.+branch+call+eval+node+operand+simple.Tie.{close}
+use Rattle.fixpoint.proofs.evaluator.+branch+call+condition+eval+node+operand+simple.{statement}
+use Rattle.fixpoint.proofs.evaluator.+branch+call+condition+eval+node+operand+simple.Tie.{close}
 use Prim.Native.Nat.{_+_, _-_, _*_}
 use mathlib.Core.Path.{_≡_, refl, sym, _∙_}
 use native.Mathlib.Omega.{arith}
 use borrow.Author.Needs.{needs}
 use Rattle.rule.specs.declared.Node.{Node}
 use Rattle.fixpoint.specs.Mirror.{setupIn, nodeBy, evalAt, branchAt, callAt}
-use Rattle.fixpoint.proofs.EvalWays.{eval-deep, eval-past, eval-node, eval-param, eval-head, eval-tail, eval-null, branch-true, branch-false, branch-other, call-none, call-args, Along, along-start, along-end, along-stop, along-more}
+use Rattle.fixpoint.proofs.EvalWays.{eval-deep, eval-past, eval-node, eval-param, eval-truth, eval-head, eval-tail, eval-null, branch-true, branch-false, branch-other, call-none, call-args, Along, along-start, along-end, along-stop, along-more}
 
 abbrev μ-branch : Measures 5 branch-kinds.ps ℕ
-μ-branch κs a = a .1 .1 .1 .1 .0 * 4 + 3
+μ-branch κs a = a .1 .1 .1 .1 .0 * 5 + 4
 
 abbrev μ-call : Measures 5 call-kinds.ps ℕ
-μ-call κs a = a .1 .1 .1 .1 .0 * 4 + 3
+μ-call κs a = a .1 .1 .1 .1 .0 * 5 + 4
+
+abbrev μ-condition : Measures 5 condition-kinds.ps ℕ
+μ-condition κs a = a .1 .1 .1 .1 .0 * 5 + 3
 
 abbrev μ-eval : Measures 5 eval-kinds.ps ℕ
-μ-eval κs a = a .1 .1 .1 .1 .0 * 4 + 1
+μ-eval κs a = a .1 .1 .1 .1 .0 * 5 + 1
 
 abbrev μ-node : Measures 5 node-kinds.ps ℕ
-μ-node κs a = a .1 .1 .1 .1 .0 * 4
+μ-node κs a = a .1 .1 .1 .1 .0 * 5
 
 abbrev μ-operand : Measures 5 operand-kinds.ps ℕ
-μ-operand κs a = a .1 .1 .1 .1 .0 * 4 + 1
+μ-operand κs a = a .1 .1 .1 .1 .0 * 5 + 1
 
 abbrev μ-simple : Measures 5 simple-kinds.ps ℕ
-μ-simple κs a = a .1 .1 .1 .1 .0 * 4 + 2
+μ-simple κs a = a .1 .1 .1 .1 .0 * 5 + 2
 
 abbrev branch-at : ℕ → In 5 branch-kinds.ps
 branch-at t = and 5 branch-kinds.ps (is 5 branch-kinds.ps μ-branch t) branch.Pre
@@ -72,6 +78,12 @@ call-at t = and 5 call-kinds.ps (is 5 call-kinds.ps μ-call t) call.Pre
 
 abbrev call-below : ℕ → In 5 call-kinds.ps
 call-below t = and 5 call-kinds.ps (falls 5 call-kinds.ps _<_ μ-call t) call.Pre
+
+abbrev condition-at : ℕ → In 5 condition-kinds.ps
+condition-at t = and 5 condition-kinds.ps (is 5 condition-kinds.ps μ-condition t) condition.Pre
+
+abbrev condition-below : ℕ → In 5 condition-kinds.ps
+condition-below t = and 5 condition-kinds.ps (falls 5 condition-kinds.ps _<_ μ-condition t) condition.Pre
 
 abbrev eval-at : ℕ → In 5 eval-kinds.ps
 eval-at t = and 5 eval-kinds.ps (is 5 eval-kinds.ps μ-eval t) eval.Pre
@@ -98,10 +110,13 @@ abbrev simple-below : ℕ → In 5 simple-kinds.ps
 simple-below t = and 5 simple-kinds.ps (falls 5 simple-kinds.ps _<_ μ-simple t) simple.Pre
 
 abbrev branch-claims : ℕ → branch-lts.Claims
-branch-claims t = (simple-below t, simple.Post, end-at-reads.Asked, end-at-reads.Learnt, eval-below t, eval.Post)
+branch-claims t = (condition-below t, condition.Post, end-at-reads.Asked, end-at-reads.Learnt, eval-below t, eval.Post)
 
 abbrev call-claims : ℕ → call-lts.Claims
 call-claims t = (at-most-four-reads.Asked, at-most-four-reads.Learnt, simple-below t, simple.Post, bit-reads.Asked, bit-reads.Learnt, radix-reads.Asked, radix-reads.Learnt, digit-reads.Asked, digit-reads.Learnt, next-index-reads.Asked, next-index-reads.Learnt, end-at-reads.Asked, end-at-reads.Learnt, lookup-reads.Asked, lookup-reads.Learnt)
+
+abbrev condition-claims : ℕ → condition-lts.Claims
+condition-claims t = (byte-at-reads.Asked, byte-at-reads.Learnt, node-below t, node.Post, simple-below t, simple.Post)
 
 abbrev eval-claims : ℕ → eval-lts.Claims
 eval-claims t = (node-below t, node.Post)
@@ -129,8 +144,8 @@ at-node : (t : ℕ) (c : node-lts.After-node-of (node-claims t) (node-at t) node
     evalAt S (a .table .now .now) (a .env .now) (a .depth) (a .at) ≡ nodeBy S (a .table .now .now) (a .env .now) (evalAt S (a .table .now .now) (a .env .now) (a .depth - 1)) (a .at + 1) k
 at-node t c q = eval-node _ _ _ _ _ (c .before .before .pre .1 .1) (c .before .before .pre .1 .0) (c .before .byte-at .ensures) (sym (c .node-of .ensures) ∙ q)
 
-branch-simple-requires : (t : ℕ) → branch-lts.Need-simple-requires (branch-claims t) (branch-at t) branch.Post
-branch-simple-requires t c κs = (omega arith, tt)
+branch-condition-requires : (t : ℕ) → branch-lts.Need-condition-requires (branch-claims t) (branch-at t) branch.Post
+branch-condition-requires t c κs = (omega arith, tt)
 
 branch-end-at-requires : (t : ℕ) → branch-lts.Need-end-at-requires (branch-claims t) (branch-at t) branch.Post
 branch-end-at-requires t c κs = search needs
@@ -142,7 +157,7 @@ branch-eval-requires : (t : ℕ) → branch-lts.Need-eval-requires (branch-claim
 branch-eval-requires t c κs = (omega arith, tt)
 
 branch-returns : (t : ℕ) → branch-lts.Need-returns (branch-claims t) (branch-at t) branch.Post
-branch-returns t c = c .eval .ensures ∙ sym (branch-true _ _ _ _ _ (c .before .before .before .simple .ensures) (c .before .before .end-at .ensures) (c .before .if1 .taken))
+branch-returns t c = c .eval .ensures ∙ sym (branch-true _ _ _ _ _ (c .before .before .before .condition .ensures) (c .before .before .end-at .ensures) (c .before .if1 .taken))
 
 branch-end-at-requires-2 : (t : ℕ) → branch-lts.Need-end-at-requires-2 (branch-claims t) (branch-at t) branch.Post
 branch-end-at-requires-2 t c κs = search needs
@@ -154,10 +169,10 @@ branch-eval-requires-2 : (t : ℕ) → branch-lts.Need-eval-requires-2 (branch-c
 branch-eval-requires-2 t c κs = (omega arith, tt)
 
 branch-returns-2 : (t : ℕ) → branch-lts.Need-returns-2 (branch-claims t) (branch-at t) branch.Post
-branch-returns-2 t c = c .eval2 .ensures ∙ sym (branch-false _ _ _ _ _ (c .before .before .before .before .before .simple .ensures) (c .before .before .before .before .end-at .ensures) (c .before .end-at2 .ensures) (c .before .before .if2 .taken))
+branch-returns-2 t c = c .eval2 .ensures ∙ sym (branch-false _ _ _ _ _ (c .before .before .before .before .before .condition .ensures) (c .before .before .before .before .end-at .ensures) (c .before .end-at2 .ensures) (c .before .before .if2 .taken))
 
 branch-returns-3 : (t : ℕ) → branch-lts.Need-returns-3 (branch-claims t) (branch-at t) branch.Post
-branch-returns-3 t c = sym (branch-other _ _ _ _ _ (c .before .before .before .simple .ensures) (c .before .if1 .left) (c .if2 .left))
+branch-returns-3 t c = sym (branch-other _ _ _ _ _ (c .before .before .before .condition .ensures) (c .before .if1 .left) (c .if2 .left))
 
 call-returns : (t : ℕ) → call-lts.Need-returns (call-claims t) (call-at t) call.Post call-Inv-loop call-μ-loop
 call-returns t c = sym (call-none _ _ _ _ _ _ (c .if1 .taken))
@@ -233,6 +248,27 @@ call-lookup-requires t c κs = omega arith
 
 call-returns-5 : (t : ℕ) → call-lts.Need-returns-5 (call-claims t) (call-at t) call.Post call-Inv-loop call-μ-loop
 call-returns-5 t c = c .lookup .ensures ∙ sym (call-args _ _ _ _ _ _ (c .before .before .before .before .before .before .before .if1 .left) (c .before .before .before .before .at-most-four .ensures) ∙ along-end (c .before .before .loop .inv) (c .before .loop-test .left))
+
+condition-returns : (t : ℕ) → condition-lts.Need-returns (condition-claims t) (condition-at t) condition.Post
+condition-returns t c = sym (eval-deep _ _ _ _ _ (c .if1 .taken))
+
+condition-returns-2 : (t : ℕ) → condition-lts.Need-returns-2 (condition-claims t) (condition-at t) condition.Post
+condition-returns-2 t c = sym (eval-past _ _ _ _ _ (c .if2 .taken))
+
+condition-byte-at-requires : (t : ℕ) → condition-lts.Need-byte-at-requires (condition-claims t) (condition-at t) condition.Post
+condition-byte-at-requires t c κs = c .if2 .left
+
+condition-node-requires : (t : ℕ) → condition-lts.Need-node-requires (condition-claims t) (condition-at t) condition.Post
+condition-node-requires t c κs = (omega arith, (c .before .before .before .if1 .left, c .before .before .if2 .left))
+
+condition-returns-3 : (t : ℕ) → condition-lts.Need-returns-3 (condition-claims t) (condition-at t) condition.Post
+condition-returns-3 t c = c .node .ensures
+
+condition-simple-requires : (t : ℕ) → condition-lts.Need-simple-requires (condition-claims t) (condition-at t) condition.Post
+condition-simple-requires t c κs = (omega arith, tt)
+
+condition-returns-4 : (t : ℕ) → condition-lts.Need-returns-4 (condition-claims t) (condition-at t) condition.Post
+condition-returns-4 t c = c .simple .ensures
 
 eval-returns : (t : ℕ) → eval-lts.Need-returns (eval-claims t) (eval-at t) eval.Post
 eval-returns t c = sym (eval-deep _ _ _ _ _ (c .if1 .taken))
@@ -369,13 +405,22 @@ operand-param-requires : (t : ℕ) → operand-lts.Need-param-requires (operand-
 operand-param-requires t c κs = search needs
 
 operand-returns-3 : (t : ℕ) → operand-lts.Need-returns-3 (operand-claims t) (operand-at t) operand.Post
-operand-returns-3 t c = c .param .ensures ∙ sym (eval-param _ _ _ _ _ (c .before .before .before .before .if2 .left) (c .before .before .before .before .before .if1 .left) (c .before .before .before .byte-at .ensures) (c .before .before .if3 .taken) (c .before .if4 .taken))
+operand-returns-3 t c = c .param .ensures ∙ sym (eval-param _ _ _ _ _ (c .before .before .before .before .if2 .left) (c .before .before .before .before .before .if1 .left) (c .before .before .before .byte-at .ensures) (c .before .if4 .taken) (c .before .before .if3 .taken))
+
+operand-cast-result : (t : ℕ) → operand-lts.Need-cast-result (operand-claims t) (operand-at t) operand.Post
+operand-cast-result t c = search needs
+
+operand-add-result : (t : ℕ) → operand-lts.Need-add-result (operand-claims t) (operand-at t) operand.Post
+operand-add-result t c = omega arith
+
+operand-returns-4 : (t : ℕ) → operand-lts.Need-returns-4 (operand-claims t) (operand-at t) operand.Post
+operand-returns-4 t c = sym (eval-truth _ _ _ _ _ (c .before .before .before .before .if2 .left) (c .before .before .before .before .before .if1 .left) (c .before .before .before .byte-at .ensures) (c .if5 .taken))
 
 operand-node-requires : (t : ℕ) → operand-lts.Need-node-requires (operand-claims t) (operand-at t) operand.Post
 operand-node-requires t c κs = (omega arith, (c .before .before .before .if1 .left, c .before .before .if2 .left))
 
-operand-returns-4 : (t : ℕ) → operand-lts.Need-returns-4 (operand-claims t) (operand-at t) operand.Post
-operand-returns-4 t c = c .node .ensures
+operand-returns-5 : (t : ℕ) → operand-lts.Need-returns-5 (operand-claims t) (operand-at t) operand.Post
+operand-returns-5 t c = c .node .ensures
 
 simple-returns : (t : ℕ) → simple-lts.Need-returns (simple-claims t) (simple-at t) simple.Post
 simple-returns t c = sym (eval-deep _ _ _ _ _ (c .if1 .taken))
@@ -428,11 +473,12 @@ simple-operand-requires-4 t c κs = (omega arith, tt)
 simple-returns-6 : (t : ℕ) → simple-lts.Need-returns-6 (simple-claims t) (simple-at t) simple.Post
 simple-returns-6 t c = c .operand4 .ensures
 
-pub +branch+call+eval+node+operand+simple-spec : {M : Type 1} → statement M
-+branch+call+eval+node+operand+simple-spec = close μ-branch μ-call μ-eval μ-node μ-operand μ-simple
-    (λ t. branch-lts.spec (branch-claims t) (branch-at t) branch.Post (branch-simple-requires t) (branch-end-at-requires t) (branch-cast-first t) (branch-eval-requires t) (branch-returns t) (branch-end-at-requires-2 t) (branch-cast-eval t) (branch-eval-requires-2 t) (branch-returns-2 t) (branch-returns-3 t))
+pub +branch+call+condition+eval+node+operand+simple-spec : {M : Type 1} → statement M
++branch+call+condition+eval+node+operand+simple-spec = close μ-branch μ-call μ-condition μ-eval μ-node μ-operand μ-simple
+    (λ t. branch-lts.spec (branch-claims t) (branch-at t) branch.Post (branch-condition-requires t) (branch-end-at-requires t) (branch-cast-first t) (branch-eval-requires t) (branch-returns t) (branch-end-at-requires-2 t) (branch-cast-eval t) (branch-eval-requires-2 t) (branch-returns-2 t) (branch-returns-3 t))
     (λ t. call-lts.spec (call-claims t) (call-at t) call.Post call-Inv-loop call-μ-loop (call-returns t) (call-add-kinds t) (call-mul-kinds t) (call-element-copy-out-kinds t) (call-add-at-most-four t) (call-mul-at-most-four t) (call-element-copy-out-at-most-four t) (call-at-most-four-requires t) (call-element-copy-out-n t) (call-loop-holds t) (call-simple-requires t) (call-returns-2 t) (call-returns-3 t) (call-returns-4 t) (call-bit-requires t) (call-radix-requires t) (call-digit-requires t) (call-next-index-requires t) (call-end-at-requires t) (call-cast-place t) (call-add-i t) (call-loop-less t) (call-loop-again t) (call-lookup-requires t) (call-returns-5 t))
+    (λ t. condition-lts.spec (condition-claims t) (condition-at t) condition.Post (condition-returns t) (condition-returns-2 t) (condition-byte-at-requires t) (condition-node-requires t) (condition-returns-3 t) (condition-simple-requires t) (condition-returns-4 t))
     (λ t. eval-lts.spec (eval-claims t) (eval-at t) eval.Post (eval-returns t) (eval-returns-2 t) (eval-node-requires t) (eval-returns-3 t))
     (λ t. node-lts.spec (node-claims t) (node-at t) node.Post (node-sub-left t) (node-add-next t) (node-byte-at-requires t) (node-node-of-requires t) (node-enum-told t) (node-enum-told-2 t) (node-enum-told-3 t) (node-enum-known-i t) (node-param-requires t) (node-enum-told-4 t) (node-element-copy-out-head t) (node-operand-requires t) (node-head-requires t) (node-enum-told-5 t) (node-operand-requires-2 t) (node-tail-requires t) (node-enum-told-6 t) (node-operand-requires-3 t) (node-null-requires t) (node-enum-told-7 t) (node-branch-requires t) (node-enum-told-8 t) (node-enum-known-g t) (node-call-requires t) (node-enum-told-9 t) (node-returns t) (node-returns-2 t) (node-returns-3 t) (node-returns-4 t) (node-returns-5 t) (node-returns-6 t) (node-returns-7 t) (node-returns-8 t) (node-returns-9 t) (node-returns-10 t) (node-returns-11 t))
-    (λ t. operand-lts.spec (operand-claims t) (operand-at t) operand.Post (operand-returns t) (operand-returns-2 t) (operand-byte-at-requires t) (operand-param-requires t) (operand-returns-3 t) (operand-node-requires t) (operand-returns-4 t))
+    (λ t. operand-lts.spec (operand-claims t) (operand-at t) operand.Post (operand-returns t) (operand-returns-2 t) (operand-byte-at-requires t) (operand-param-requires t) (operand-returns-3 t) (operand-cast-result t) (operand-add-result t) (operand-returns-4 t) (operand-node-requires t) (operand-returns-5 t))
     (λ t. simple-lts.spec (simple-claims t) (simple-at t) simple.Post (simple-returns t) (simple-returns-2 t) (simple-byte-at-requires t) (simple-sub-left t) (simple-add-next t) (simple-element-copy-out-head t) (simple-operand-requires t) (simple-head-requires t) (simple-returns-3 t) (simple-operand-requires-2 t) (simple-tail-requires t) (simple-returns-4 t) (simple-operand-requires-3 t) (simple-null-requires t) (simple-returns-5 t) (simple-operand-requires-4 t) (simple-returns-6 t))
