@@ -115,14 +115,15 @@ static double measure(const struct workload *w, uint16_t *table, unsigned turns)
 {
     static double taken[2][ALL_TURNS];
     char passes[11] = "-";
-    double units = units_of(w, table, passes), spread[2], each[2];
+    double units = units_of(w, table, passes), spread[2], once[2];
     unsigned times = take_turns(w, table, &turns, taken);
     for (unsigned side = 0; side < 2; side++) {
-        each[side] = taken[side][0] / times / units * 1e9;
+        once[side] = taken[side][0] / times;
         spread[side] = taken[side][turns / 2] / taken[side][0];
     }
-    printf("%-42s %6s %9.0f %-5s %9.2f %9.2f %6.2f\n", w->name, passes, units,
-           w->sort == EVALUATE ? "cells" : "bytes", each[0], each[1], each[0] / each[1]);
+    printf("%-42s %6s %9.0f %-5s %9.3f %9.3f %9.2f %9.2f %6.2f\n", w->name, passes, units,
+           w->sort == EVALUATE ? "cells" : "bytes", once[0] * 1e3, once[1] * 1e3, once[0] / units * 1e9,
+           once[1] / units * 1e9, once[0] / once[1]);
     fflush(stdout);
     return spread[0] > spread[1] ? spread[0] : spread[1];
 }
@@ -145,8 +146,9 @@ int main(int argc, char **argv)
     printf("The library and plain C agree on %.0f calls.\n", (double)calls);
     printf("Processor time, the least of %d turns, of %d where a turn takes less than a tenth of a second.\n\n", turns,
            turns * MORE_TURNS);
-    printf("%-42s %6s %15s %9s %9s %6s\n", "", "", "visited", "library", "plain C", "");
-    printf("%-42s %6s %15s %19s %6s\n", "workload", "passes", "cells or bytes", "ns per cell or byte", "ratio");
+    printf("%-42s %6s %15s %19s %19s %6s\n", "", "", "visited", "milliseconds", "ns per cell or byte", "");
+    printf("%-42s %6s %15s %9s %9s %9s %9s %6s\n", "workload", "passes", "cells or bytes", "library", "plain C", "library",
+           "plain C", "ratio");
     for (unsigned i = 0; i < WORKLOADS; i++) {
         double spread = measure(&workload[i], one, turns);
         most = spread > most ? spread : most;
