@@ -510,7 +510,7 @@ def rule_cases():
 
 
 def evaluate_cases():
-    files = "verdict_cases.rt refusal_cases.rt pass_cases.rt"
+    files = "verdict_cases.rt outcome_cases.rt refusal_cases.rt pass_cases.rt"
     for sort, name, program, *more in calls("cases", files, "tried", "long", "medium", "passed"):
         if sort == "tried":
             trace, n, lent, content = more
@@ -597,7 +597,7 @@ def read_cases():
 
 def write_cases():
     written = "length %d " + VERDICT
-    for sort, name, *more in calls("archive_cases", "write_cases.rt", "tried", "long", "after"):
+    for sort, name, *more in calls("archive_cases", "write_cases.rt check_cases.rt", "tried", "long", "after"):
         if sort == "tried":
             program, trace, n, label, lent, room = more
             table, out = [9] * lent, bytearray([170] * room)

@@ -1,5 +1,6 @@
 // Runs the cases of records, archives and the listing, and prints what came out. The gate compares it with
 // the file stdout.
+mod check_cases;
 mod list_cases;
 mod read_cases;
 mod records;
@@ -27,8 +28,8 @@ fn main() {
     write_cases::rooms();
     write_cases::refusals();
     write_cases::longest();
-    write_cases::checks();
-    write_cases::check_refusals();
+    check_cases::answers();
+    check_cases::refusals();
     walk_cases::whole();
     walk_cases::others();
     walk_cases::none();

@@ -1,6 +1,7 @@
 // Runs the cases of document 01 that are executed and not proved, and prints what came out. The gate
 // compares it with the file stdout.
 mod evaluating;
+mod outcome_cases;
 mod pass_cases;
 mod refusal_cases;
 mod ring_cases;
@@ -22,6 +23,7 @@ fn main() {
     rule_cases::priorities();
     rule_cases::depths();
     verdict_cases::all();
+    outcome_cases::all();
     refusal_cases::all();
     pass_cases::all();
 }
