@@ -1,5 +1,5 @@
 # Short names for what is done often. `make help` lists them.
-.PHONY: help test check fmt try model list lib install example compare bench
+.PHONY: help test check fmt try expected list lib install example compare bench
 
 help: ## list the targets
 	@grep -hE '^[a-z]+:.*## ' $(MAKEFILE_LIST) | sed 's/:.*## /\t/' | expand -t 8
@@ -15,42 +15,47 @@ fmt: ## lay out the sources and proofs
 
 try: ## run the programs with no proof: interpreter, -O0, -O3, assumptions checked
 	rt try cases
-	rt try archive_cases
 	rt try listing
 
-model: ## compare the sample archive, and what the programs must print, with the model's
-	python3 tests/model.py | cmp - crates/cases/stdout
-	python3 tests/model.py archive | cmp - crates/archive_cases/stdout
-	python3 tests/model.py sample | cmp - samples/plant.archive
-	python3 tests/model.py sample | cmp - crates/listing/stdin
-	python3 tests/model.py listing | cmp - crates/listing/stdout
+expected: ## write the sample archive, and what the programs must print, anew by the second implementation in Rust
+	mkdir -p target/tests
+	rustc -O --edition 2021 tests/compare/expected.rs -o target/tests/expected
+	for script in tests/scripts/*.case; do \
+	  target/tests/expected $$script >target/tests/text && cp target/tests/text $${script%.case}.stdout || exit 1; \
+	done
+	target/tests/expected crates/cases/stdin >target/tests/text && cp target/tests/text crates/cases/stdout
+	target/tests/expected --sample >samples/plant.archive
+	target/tests/expected --sample >crates/listing/stdin
+	target/tests/expected --listing >crates/listing/stdout
 
 ARCHIVE = samples/plant.archive
 
+# The listing program has no exit status of its own: what it tells on standard error is made one.
 list: ## list the records of an archive, the sample's or those of ARCHIVE=file
 	@test -r "$(ARCHIVE)" && test ! -d "$(ARCHIVE)" || { echo "make list: no file '$(ARCHIVE)' to read; name one as ARCHIVE=file" >&2; exit 2; }
-	@mkdir -p target
-	@test -x target/bin/listing || echo "make list: proving and building the listing; see target/list.log" >&2
-	@rt check listing </dev/null >target/list.log 2>&1 || { cat target/list.log >&2; exit 1; }
-	@target/bin/listing <"$(ARCHIVE)"
+	@tools/prove check listing
+	@target/bin/listing <"$(ARCHIVE)" 2>target/listing.err; status=$$?; cat target/listing.err >&2; \
+	test $$status -eq 0 && test ! -s target/listing.err
 
 PREFIX = /usr/local
+# The header has the library's version.
+VERSION = $(shell awk '/^.define SIK_VERSION_(MAJOR|MINOR|PATCH) / { printf "%s%s", dot, $$3; dot = "." }' include/sikafondza.h)
 
 lib: ## build the static library and put it with its header under build/
-	rt staticlib gateway
+	@tools/prove staticlib gateway
 	mkdir -p build/lib build/include
-	cp target/staticlib/libgateway.a build/lib/
+	cp target/staticlib/libgateway.a build/lib/libsikafondza.a
 	cp include/sikafondza.h build/include/
 
 install: lib ## install library, header and pkg-config file under PREFIX (/usr/local); DESTDIR goes in front
 	install -d $(DESTDIR)$(PREFIX)/include $(DESTDIR)$(PREFIX)/lib/pkgconfig
 	install -m 644 build/include/sikafondza.h $(DESTDIR)$(PREFIX)/include/
-	install -m 644 build/lib/libgateway.a $(DESTDIR)$(PREFIX)/lib/
-	sed 's|@PREFIX@|$(abspath $(PREFIX))|' sikafondza.pc.in > build/sikafondza.pc
+	install -m 644 build/lib/libsikafondza.a $(DESTDIR)$(PREFIX)/lib/
+	sed 's|@PREFIX@|$(abspath $(PREFIX))|; s|@VERSION@|$(VERSION)|' sikafondza.pc.in > build/sikafondza.pc
 	install -m 644 build/sikafondza.pc $(DESTDIR)$(PREFIX)/lib/pkgconfig/
 
 example: lib ## build examples/daemon.c against build/ and run it
-	$(CC) -std=c99 -pedantic -Wall -Wextra -O2 -Ibuild/include examples/daemon.c -Lbuild/lib -lgateway -o build/daemon
+	$(CC) -std=c99 -pedantic -Wall -Wextra -O2 -Ibuild/include examples/daemon.c -Lbuild/lib -lsikafondza -o build/daemon
 	build/daemon
 
 compare: ## compare the library with the second implementation in Rust, ten times as long as the gate does
@@ -61,7 +66,7 @@ BENCH_CC = gcc clang
 BENCH_TURNS =
 
 bench: ## time the library beside plain C: one table for each C compiler there is
-	rt staticlib gateway
+	@tools/prove staticlib gateway
 	@for c in $(BENCH_CC); do \
 	  command -v $$c >/dev/null || continue; \
 	  $$c -std=c99 -Wall -Wextra -O3 -Iinclude bench/*.c target/staticlib/libgateway.a -o target/bench || exit 1; \

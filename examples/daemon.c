@@ -4,7 +4,7 @@
  * and recorded, and the record is appended to an archive. Then the archive is read back from its file and walked
  * from its end, and each record is checked. Every refusal is told in words with its number.
  *
- * Build:  make lib && cc -std=c99 -Ibuild/include examples/daemon.c -Lbuild/lib -lgateway -o daemon
+ * Build:  make lib && cc -std=c99 -Ibuild/include examples/daemon.c -Lbuild/lib -lsikafondza -o daemon
  * Run:    ./daemon [-i] [-a ARCHIVE] [RULE ..]          (`make example` builds it and runs it with no arguments)
  *   -i          samples come from standard input, a character 0 or 1 each, white space apart; else from SAMPLES
  *   -a ARCHIVE  the file that records are appended to; else a temporary one, removed at the end
@@ -63,7 +63,7 @@ static const char *const REFUSALS[] = {
 
 /* What is lent to the library. */
 static uint8_t slots[SLOTS], trace[TRACE], program[PROGRAM + 1], record[RECORD], archived[ARCHIVE];
-static uint64_t state[2], samples /* in the trace */, parts[9], answer[3];
+static uint64_t state[SIK_RING_SIZE], samples /* in the trace */, parts[SIK_PARTS_SIZE];
 static size_t archived_len;
 static uint16_t table[CELLS];
 
@@ -85,7 +85,7 @@ static int fail(const char *what, const char *why)
 /* A sample comes in: the ring takes it, and the trace is taken from the ring. */
 static void add_sample(uint8_t sample)
 {
-    const char *lost = state[1] == SLOTS ? ", the oldest is lost" : "";
+    const char *lost = state[SIK_RING_COUNT] == SLOTS ? ", the oldest is lost" : "";
     printf("sample %d: ", sample);
     if (refused(sik_ring_add(slots, SLOTS, state, sample)) ||
         refused(sik_ring_trace(slots, SLOTS, state, trace, TRACE, &samples)))
@@ -129,18 +129,20 @@ static int read_hex(const char *text)
 static int run_rule(const char *name, const char *hex, FILE *archive)
 {
     const size_t len = (size_t)read_hex(hex), trace_len = (size_t)(samples + 7) / 8;
+    uint64_t evaluated[SIK_EVALUATED_SIZE], written[SIK_WRITTEN_SIZE];
     printf("rule '%s': ", name);
     if (refused(sik_check_program(program, len)))
         return 0;
     printf("accepted, bytes %zu\n  evaluated: ", len);
-    if (refused(sik_evaluate(program, len, trace, trace_len, samples, table, CELLS, answer)))
+    if (refused(sik_evaluate(program, len, trace, trace_len, samples, table, CELLS, evaluated)))
         return 0;
-    printf("%s, passes %" PRIu64 "\n  recorded: ", VERDICTS[answer[0]], answer[1]);
-    if (refused(sik_write_record(program, len, trace, trace_len, samples, LABEL, table, CELLS, record, RECORD, answer)))
+    printf("%s, passes %" PRIu64 "\n  recorded: ", VERDICTS[evaluated[SIK_EVALUATED_VERDICT]],
+           evaluated[SIK_EVALUATED_PASSES]);
+    if (refused(sik_write_record(program, len, trace, trace_len, samples, LABEL, table, CELLS, record, RECORD, written)))
         return 0;
-    printf("bytes %" PRIu64 "\n", answer[0]);
-    if (fseek(archive, 0, SEEK_END) != 0 || fwrite(record, 1, (size_t)answer[0], archive) != answer[0] ||
-        fflush(archive) != 0)
+    const size_t record_len = (size_t)written[SIK_WRITTEN_LENGTH];
+    printf("bytes %zu\n", record_len);
+    if (fseek(archive, 0, SEEK_END) != 0 || fwrite(record, 1, record_len, archive) != record_len || fflush(archive) != 0)
         return fail("the archive cannot be written", strerror(errno));
     return 0;
 }
@@ -159,20 +161,23 @@ static int read_archive(FILE *archive)
  * read ends the walk, since nothing tells where the one before it ends. */
 static int walk(void)
 {
+    uint64_t checked[SIK_CHECKED_SIZE];
     int records = 0, agree = 0;
     printf("archive: bytes %zu\n", archived_len);
-    for (size_t len = archived_len; len > 0; len = (size_t)parts[8]) {
+    for (size_t len = archived_len; len > 0; len = (size_t)parts[SIK_PARTS_BEFORE]) {
         printf("record %d from the end: ", ++records);
         if (refused(sik_read_record(archived, len, parts)))
             return 2;
-        printf("bytes %" PRIu64 ", label ", len - parts[8]);
-        for (uint64_t i = parts[5]; i < parts[5] + sizeof LABEL; i++)
-            putchar(isprint(archived[i]) ? archived[i] : '.');
-        printf(", samples %" PRIu64 ", %s, passes %" PRIu64 ": ", parts[4], VERDICTS[parts[6]], parts[7]);
-        if (refused(sik_check_record(archived, len, table, CELLS, answer)))
+        const uint8_t *label = archived + parts[SIK_PARTS_LABEL_START];
+        printf("bytes %" PRIu64 ", label ", len - parts[SIK_PARTS_BEFORE]);
+        for (size_t i = 0; i < sizeof LABEL; i++)
+            putchar(isprint(label[i]) ? label[i] : '.');
+        printf(", samples %" PRIu64 ", %s, passes %" PRIu64 ": ", parts[SIK_PARTS_SAMPLES],
+               VERDICTS[parts[SIK_PARTS_VERDICT]], parts[SIK_PARTS_PASSES]);
+        if (refused(sik_check_record(archived, len, table, CELLS, checked)))
             continue;
-        puts(answer[0] == SIK_AGREES ? "agrees" : "differs");
-        agree += answer[0] == SIK_AGREES;
+        puts(checked[SIK_CHECKED_AGREEMENT] == SIK_AGREES ? "agrees" : "differs");
+        agree += checked[SIK_CHECKED_AGREEMENT] == SIK_AGREES;
     }
     printf("end of the archive: %d of %d records agree\n", agree, records);
     return agree == records ? 0 : 2;

@@ -1,20 +1,31 @@
 /* Sikafondza: the functions of the proved library that a program in C calls.
  *
- * Every function answers for all bytes and numbers and returns. It answers 0, or the number of the refusal
- * (SIK_REFUSED_..): the lowest that applies. A refusal changes nothing that is lent, the arrays for the
- * answer included. A function reads and writes nothing but the memory that it is lent, and keeps no pointer
- * to it. A pointer to no elements may be null. What is lent for reading must not change during the call, and
- * what is lent for writing must overlap nothing else that is lent to the same call. The functions keep no
- * state of their own, so calls on different memory may run at the same time. A call takes at most about 29 KB of
- * stack (measured on x86-64).
+ * Every function answers for all bytes and numbers and returns. It answers 0, or the number of a refusal
+ * (SIK_REFUSED_..). A refusal changes nothing that is lent, the arrays for the answer included. A function reads and
+ * writes nothing but the memory that it is lent, and keeps no pointer to it. A pointer to no elements may be null. What
+ * is lent for reading must not change during the call, and what is lent for writing must overlap nothing else that is
+ * lent to the same call. The functions keep no state of their own, so calls on different memory may run at the same
+ * time. A call takes at most about 29 KB of stack (measured on x86-64).
  *
- * Link with libgateway.a (`make lib` puts it with this file under build/).
+ * An array for a state or an answer has its places named by an enum (SIK_RING_.., SIK_EVALUATED_.., SIK_WRITTEN_..,
+ * SIK_PARTS_.., SIK_CHECKED_..), which ends in its number of places, .._SIZE.
+ *
+ * Link with libsikafondza.a (`make lib` puts it with this file under build/).
  */
 #ifndef SIKAFONDZA_H
 #define SIKAFONDZA_H
 
 #include <stddef.h>
 #include <stdint.h>
+
+/* The version of the library, as numbers and as a text such as "1.0.0". */
+#define SIK_VERSION_MAJOR 1
+#define SIK_VERSION_MINOR 0
+#define SIK_VERSION_PATCH 0
+#define SIK_VERSION \
+    SIK_VERSION_TEXT(SIK_VERSION_MAJOR) "." SIK_VERSION_TEXT(SIK_VERSION_MINOR) "." SIK_VERSION_TEXT(SIK_VERSION_PATCH)
+#define SIK_VERSION_TEXT(macro) SIK_VERSION_TEXT_OF(macro)
+#define SIK_VERSION_TEXT_OF(number) #number
 
 #ifdef __cplusplus
 extern "C" {
@@ -29,10 +40,12 @@ enum {
     SIK_TAIL = 4     /* tail of empty */
 };
 
-/* What checking a record answers. */
-enum { SIK_DIFFERS = 0, SIK_AGREES = 1 };
-
-/* Refusals. */
+/* Refusals. The number answered is that of the first that applies, in the order of this list, among those that the
+ * function can meet. Of a program with several faults, in 7 to 9 the first function at fault decides; in 12 to 17 the
+ * first function, and in it the first byte, whatever the numbers of the later ones. So the program
+ * 02 01 01 01 00 10 00 00 01 00 24 is refused with 16, for the list in the body of function 0, and not with 14, for the
+ * 0x24 in that of function 1.
+ */
 enum {
     SIK_REFUSED_TRAILER_MISSING = 1,         /* fewer than eight bytes remain for a trailer */
     SIK_REFUSED_MARK_OR_FORMAT = 2,          /* the mark is not 0x52 or the format is not 1 */
@@ -61,44 +74,65 @@ enum {
     SIK_REFUSED_OUTPUT_SHORT = 22            /* the output is shorter than what is to be written */
 };
 
+/* The state of a ring; both numbers are 0 for a new ring. */
+enum {
+    SIK_RING_NEXT = 0,  /* the place of the next sample */
+    SIK_RING_COUNT = 1, /* how many samples are held */
+    SIK_RING_SIZE = 2
+};
+
 /* Adds a sample to a ring of one contact's last samples, one byte a sample.
  *   slots      the ring's memory, 1 to 4,095 bytes; a byte other than 0 reads as 1
- *   state      state[0] the place of the next sample, state[1] how many samples are held; both 0 for a new ring
+ *   state      the ring's state
  *   sample     0, or anything else for 1
  * Changes one byte of slots, and state. A full ring loses its oldest sample.
  * Refusals: 18, 19.
  */
-uint32_t sik_ring_add(uint8_t *slots, size_t slots_len, uint64_t state[2], uint8_t sample);
+uint32_t sik_ring_add(uint8_t *slots, size_t slots_len, uint64_t state[SIK_RING_SIZE], uint8_t sample);
 
 /* Packs the samples that a ring holds into out, oldest first: sample i is bit i mod 8, counted from the lowest,
  * of byte i / 8; bits above the last sample are written 0. Bytes past them keep their content.
  *   slots, state   as above
- *   out            at least state[1] / 8 rounded up bytes
- *   samples        samples[0] becomes the number of samples
+ *   out            at least state[SIK_RING_COUNT] / 8 rounded up bytes
+ *   samples        one number, which becomes the number of samples
  * Refusals: 18, 19, 22.
  */
-uint32_t sik_ring_trace(const uint8_t *slots, size_t slots_len, const uint64_t state[2], uint8_t *out, size_t out_len,
-                        uint64_t samples[1]);
+uint32_t sik_ring_trace(const uint8_t *slots, size_t slots_len, const uint64_t state[SIK_RING_SIZE], uint8_t *out,
+                        size_t out_len, uint64_t samples[1]);
 
 /* Checks a rule program. Changes nothing.
- * Refusals: 5 to 17. In 7 to 9 the first function at fault decides; in 12 to 17 the first function, and in it the
- * first byte.
+ * Refusals: 5 to 17.
  */
 uint32_t sik_check_program(const uint8_t *program, size_t program_len);
+
+/* What evaluating answers. */
+enum {
+    SIK_EVALUATED_VERDICT = 0, /* the verdict (SIK_FOREVER to SIK_TAIL) */
+    SIK_EVALUATED_PASSES = 1,  /* the pass count, which is the number of the first pass that stored no outcome */
+    SIK_EVALUATED_SIZE = 2
+};
 
 /* Evaluates a rule program on a packed trace of n samples.
  *   program        the rule
  *   trace          n / 8 rounded up bytes, packed as above; bits above the last sample are passed over
  *   table          where it works: one cell for each configuration of the program's functions, which is a function
- *                  with a value for each parameter (2 values for a Bool, n + 1 for a list). What it held does not
- *                  matter. It is left with the outcomes: 0 undecided, 1 False, 2 True, 3 head of empty, 4 tail of
- *                  empty, 5 + k a suffix of length k; cells beyond those needed keep their content
- *   answer         answer[0] becomes the verdict (SIK_..), answer[1] the pass count, which is the number of the first
- *                  pass that stored no outcome
+ *                  with a value for each parameter (2 values for a Bool, n + 1 for a list; a function without
+ *                  parameters has one configuration). What it held does not matter. It is left with the outcomes:
+ *                  0 undecided, 1 False, 2 True, 3 head of empty, 4 tail of empty, 5 + k a suffix of length k; cells
+ *                  beyond those needed keep their content
+ *   answer         becomes the verdict and the pass count
  * Refusals: 5 to 17, 20, 21.
  */
 uint32_t sik_evaluate(const uint8_t *program, size_t program_len, const uint8_t *trace, size_t trace_len, uint64_t n,
-                      uint16_t *table, size_t table_len, uint64_t answer[2]);
+                      uint16_t *table, size_t table_len, uint64_t answer[SIK_EVALUATED_SIZE]);
+
+/* What writing a record answers. */
+enum {
+    SIK_WRITTEN_LENGTH = 0,  /* the record's length */
+    SIK_WRITTEN_VERDICT = 1, /* the verdict and the pass count, as of evaluating */
+    SIK_WRITTEN_PASSES = 2,
+    SIK_WRITTEN_SIZE = 3
+};
 
 /* Evaluates as sik_evaluate does, and writes a record of it to the front of out: program, trace, label, verdict,
  * pass count, trailer (docs/FORMAT.md). Bits above the last sample are written 0. Bytes past the record keep their
@@ -106,33 +140,51 @@ uint32_t sik_evaluate(const uint8_t *program, size_t program_len, const uint8_t 
  *   program, trace, n, table   as for sik_evaluate
  *   label                      the site's label, eight bytes; zeros if unset
  *   out                        at least program_len + n / 8 rounded up + 21 bytes
- *   answer                     answer[0] becomes the record's length, answer[1] the verdict, answer[2] the pass count
+ *   answer                     becomes the record's length, the verdict and the pass count
  * Refusals: 5 to 17, 20 to 22. On 22 too the table is as it was.
  */
 uint32_t sik_write_record(const uint8_t *program, size_t program_len, const uint8_t *trace, size_t trace_len, uint64_t n,
                           const uint8_t label[8], uint16_t *table, size_t table_len, uint8_t *out, size_t out_len,
-                          uint64_t answer[3]);
+                          uint64_t answer[SIK_WRITTEN_SIZE]);
+
+/* The parts of a record, as places and lengths in the bytes that it was read from. */
+enum {
+    SIK_PARTS_PROGRAM_START = 0, /* the program's first byte */
+    SIK_PARTS_PROGRAM_LENGTH = 1,
+    SIK_PARTS_TRACE_START = 2, /* the trace's first byte */
+    SIK_PARTS_TRACE_LENGTH = 3,
+    SIK_PARTS_SAMPLES = 4,     /* n, the number of samples */
+    SIK_PARTS_LABEL_START = 5, /* the first of the eight bytes of the label */
+    SIK_PARTS_VERDICT = 6,     /* the stored verdict (SIK_FOREVER to SIK_TAIL) */
+    SIK_PARTS_PASSES = 7,      /* the stored pass count */
+    SIK_PARTS_BEFORE = 8,      /* how many bytes stand before the record: an archive is walked by reading those next */
+    SIK_PARTS_SIZE = 9
+};
 
 /* Reads the record that the bytes end in, from the last byte backwards; bytes before it do not matter. The stored
  * verdict is only read, not worked out again.
- *   parts[0], parts[1]  become the program's first byte and its length
- *   parts[2], parts[3]  the trace's first byte and its length
- *   parts[4]            n, the number of samples
- *   parts[5]            the first of the eight bytes of the label
- *   parts[6]            the verdict (SIK_..)
- *   parts[7]            the pass count
- *   parts[8]            how many bytes stand before the record: an archive is walked by reading those next
+ *   parts      becomes the record's parts
  * Refusals: 1 to 17.
  */
-uint32_t sik_read_record(const uint8_t *bytes, size_t bytes_len, uint64_t parts[9]);
+uint32_t sik_read_record(const uint8_t *bytes, size_t bytes_len, uint64_t parts[SIK_PARTS_SIZE]);
+
+/* What checking a record answers. */
+enum {
+    SIK_CHECKED_AGREEMENT = 0, /* SIK_AGREES or SIK_DIFFERS */
+    SIK_CHECKED_SIZE = 1
+};
+
+/* Whether a record's verdict and pass count are what its rule gives. */
+enum { SIK_DIFFERS = 0, SIK_AGREES = 1 };
 
 /* Checks the record that the bytes end in: works the verdict and the pass count out again and compares both.
  *   bytes      as for sik_read_record
  *   table      as for sik_evaluate, left with the cells worked out, also where the record differs
- *   answer     answer[0] becomes SIK_AGREES or SIK_DIFFERS
+ *   answer     becomes the agreement
  * Refusals: 1 to 17, 21.
  */
-uint32_t sik_check_record(const uint8_t *bytes, size_t bytes_len, uint16_t *table, size_t table_len, uint64_t answer[1]);
+uint32_t sik_check_record(const uint8_t *bytes, size_t bytes_len, uint16_t *table, size_t table_len,
+                          uint64_t answer[SIK_CHECKED_SIZE]);
 
 #ifdef __cplusplus
 }

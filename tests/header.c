@@ -1,14 +1,17 @@
 /* Checks that the header is clean in C99 and in C++: it may be included twice, its constants have the values of
  * document 01, its functions have the types written here and are found when linking. Each function is called
- * with no elements, and so with null pointers, which it must refuse.
+ * with no elements, and so with null pointers, which it must refuse. Then a record is written, read and checked, and
+ * each answer is looked for at the place that the header names.
  *
- *   cc -std=c99 -pedantic-errors -Wall -Wextra -Werror -Iinclude tests/header.c libgateway.a
- *   c++ -x c++ -pedantic-errors -Wall -Wextra -Werror -Iinclude tests/header.c -x none libgateway.a
+ *   cc -std=c99 -pedantic-errors -Wall -Wextra -Werror -Iinclude tests/header.c libsikafondza.a
+ *   c++ -x c++ -pedantic-errors -Wall -Wextra -Werror -Iinclude tests/header.c -x none libsikafondza.a
  *
  * The exit status is the number of wrong answers.
  */
 #include "sikafondza.h"
 #include "sikafondza.h"
+#include <stdio.h>
+#include <string.h>
 
 /* An array of negative length does not compile. */
 #define IS(constant, value) typedef char constant##_is_##value[(constant) == (value) ? 1 : -1]
@@ -45,6 +48,12 @@ IS(SIK_REFUSED_TRACE_LENGTH, 20);
 IS(SIK_REFUSED_TABLE_SHORT, 21);
 IS(SIK_REFUSED_OUTPUT_SHORT, 22);
 
+IS(SIK_RING_SIZE, 2);
+IS(SIK_EVALUATED_SIZE, 2);
+IS(SIK_WRITTEN_SIZE, 3);
+IS(SIK_PARTS_SIZE, 9);
+IS(SIK_CHECKED_SIZE, 1);
+
 /* The address of each function, in a pointer of its type. */
 static uint32_t (*const ring_add)(uint8_t *, size_t, uint64_t *, uint8_t) = &sik_ring_add;
 static uint32_t (*const ring_trace)(const uint8_t *, size_t, const uint64_t *, uint8_t *, size_t, uint64_t *) =
@@ -57,10 +66,12 @@ static uint32_t (*const write_record)(const uint8_t *, size_t, const uint8_t *, 
 static uint32_t (*const read_record)(const uint8_t *, size_t, uint64_t *) = &sik_read_record;
 static uint32_t (*const check_record)(const uint8_t *, size_t, uint16_t *, size_t, uint64_t *) = &sik_check_record;
 
-int main(void)
+static const uint8_t label[8] = {0, 0, 0, 0, 0, 0, 0, 0};
+
+/* No elements. */
+static int wrong_refusals(void)
 {
-    const uint8_t label[8] = {0, 0, 0, 0, 0, 0, 0, 0};
-    uint64_t state[2] = {0, 0}, numbers[9] = {0, 0, 0, 0, 0, 0, 0, 0, 0};
+    uint64_t state[SIK_RING_SIZE] = {0, 0}, numbers[SIK_PARTS_SIZE] = {0, 0, 0, 0, 0, 0, 0, 0, 0};
     int wrong = 0;
     wrong += ring_add(NULL, 0, state, 1) != SIK_REFUSED_RING_LENGTH;
     wrong += ring_trace(NULL, 0, state, NULL, 0, numbers) != SIK_REFUSED_RING_LENGTH;
@@ -70,4 +81,51 @@ int main(void)
     wrong += read_record(NULL, 0, numbers) != SIK_REFUSED_TRAILER_MISSING;
     wrong += check_record(NULL, 0, NULL, 0, numbers) != SIK_REFUSED_TRAILER_MISSING;
     return wrong;
+}
+
+/* The header's example of the order of refusals: function 0 decides, though the fault of function 1 has a lower number. */
+static int wrong_order(void)
+{
+    const uint8_t program[] = {0x02, 0x01, 0x01, 0x01, 0x00, 0x10, 0x00, 0x00, 0x01, 0x00, 0x24};
+    return check_program(program, sizeof program) != SIK_REFUSED_WRONG_KIND;
+}
+
+/* A ring of three samples, 1 0 1, and on it the program 'null of parameter 0' of document 01: no, in two passes. */
+static int wrong_places(void)
+{
+    const uint8_t program[] = {0x01, 0x01, 0x01, 0x02, 0x00, 0x22, 0x10};
+    uint8_t slots[4], trace[1], out[64];
+    uint16_t table[4];
+    uint64_t state[SIK_RING_SIZE] = {0, 0}, samples[1], evaluated[SIK_EVALUATED_SIZE], written[SIK_WRITTEN_SIZE];
+    uint64_t parts[SIK_PARTS_SIZE], checked[SIK_CHECKED_SIZE];
+    int wrong = 0;
+    wrong += ring_add(slots, 4, state, 1) != 0 || ring_add(slots, 4, state, 0) != 0 || ring_add(slots, 4, state, 1) != 0;
+    wrong += state[SIK_RING_NEXT] != 3 || state[SIK_RING_COUNT] != 3;
+    wrong += ring_trace(slots, 4, state, trace, 1, samples) != 0 || samples[0] != 3 || trace[0] != 0x05;
+    wrong += evaluate(program, 7, trace, 1, 3, table, 4, evaluated) != 0;
+    wrong += evaluated[SIK_EVALUATED_VERDICT] != SIK_NO || evaluated[SIK_EVALUATED_PASSES] != 2;
+    out[0] = 0xFF; /* a byte before the record */
+    wrong += write_record(program, 7, trace, 1, 3, label, table, 4, out + 1, 63, written) != 0;
+    wrong += written[SIK_WRITTEN_LENGTH] != 29 || written[SIK_WRITTEN_VERDICT] != SIK_NO;
+    wrong += written[SIK_WRITTEN_PASSES] != 2;
+    wrong += read_record(out, 30, parts) != 0;
+    wrong += parts[SIK_PARTS_PROGRAM_START] != 1 || parts[SIK_PARTS_PROGRAM_LENGTH] != 7;
+    wrong += parts[SIK_PARTS_TRACE_START] != 8 || parts[SIK_PARTS_TRACE_LENGTH] != 1 || parts[SIK_PARTS_SAMPLES] != 3;
+    wrong += parts[SIK_PARTS_LABEL_START] != 9 || parts[SIK_PARTS_VERDICT] != SIK_NO || parts[SIK_PARTS_PASSES] != 2;
+    wrong += parts[SIK_PARTS_BEFORE] != 1;
+    wrong += check_record(out, 30, table, 4, checked) != 0 || checked[SIK_CHECKED_AGREEMENT] != SIK_AGREES;
+    return wrong;
+}
+
+/* The text of the version has its three numbers. */
+static int wrong_version(void)
+{
+    char text[64];
+    sprintf(text, "%d.%d.%d", SIK_VERSION_MAJOR, SIK_VERSION_MINOR, SIK_VERSION_PATCH);
+    return strcmp(text, SIK_VERSION) != 0;
+}
+
+int main(void)
+{
+    return wrong_refusals() + wrong_order() + wrong_places() + wrong_version();
 }

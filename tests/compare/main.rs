@@ -33,6 +33,8 @@ mod ffi;
 mod generate;
 mod lent;
 mod options;
+// The expected texts use other parts of it.
+#[allow(dead_code)]
 mod oracle;
 mod random;
 mod report;

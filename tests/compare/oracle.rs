@@ -3,6 +3,7 @@
 //! Each operation works on copies of the lent memory and leaves them as the library must leave its own.
 
 pub mod listing;
+pub mod pass;
 pub mod program;
 pub mod record;
 pub mod ring;
@@ -39,4 +40,23 @@ pub fn evaluate(
     let functions = program::check(program)?;
     let samples = trace::unpack(bytes, n).ok_or(20u32)?;
     fill(&functions, &samples, table)
+}
+
+/// A single pass over a table as it is: how many outcomes it stored.
+pub fn make_pass(program: &[u8], bytes: &[u8], n: u64, table: &mut [u16]) -> Result<u64, u32> {
+    let functions = program::check(program)?;
+    let samples = trace::unpack(bytes, n).ok_or(20u32)?;
+    let needed = search::cells_needed(&functions, samples.len());
+    if needed > MOST_CELLS || needed > table.len() as u64 {
+        return Err(21);
+    }
+    Ok(pass::once(&functions, &samples, table))
+}
+
+/// The verdict and the pass count by passes alone, for a program and a trace that are accepted.
+pub fn by_passes(program: &[u8], bytes: &[u8], n: u64, cells: &mut [u16]) -> Option<(u8, u32)> {
+    let functions = program::check(program).ok()?;
+    let samples = trace::unpack(bytes, n)?;
+    let passes = pass::all(&functions, &samples, cells);
+    Some((cells[samples.len()] as u8, passes))
 }

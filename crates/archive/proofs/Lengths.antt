@@ -6,8 +6,8 @@ use Prim.Native.Nat.{ℕ, zero, suc, _^_, _<_, _≤_}
 use native.Mathlib.Omega.{arith}
 use lib.ListN.{length, length-append}
 use Rattle.refusal.specs.declared.Refusal.{Refusal}
-use Rattle.refusal.specs.declared.Refusal.the-variants.{TrailerMissing, MarkOrFormat, TrailerFields, VerdictOrPasses, ProgramLength, FunctionCount, HeaderCut, ParameterKinds, BodyLength, BytesAfterFunctions, MainKind, BodyEnds, TooDeep, ListConstructor, UnknownByte, WrongKind, BytesAfterExpression, RingLength, RingState, TraceLength, TableShort, OutputShort}
 use Rattle.refusal.specs.{numberOf}
+use Rattle.refusal.proofs.Numbers.{number-small}
 use Rattle.encoding.specs.{decimal}
 use Rattle.encoding.proofs.Decimal.{length-decimal}
 use Rattle.record.specs.declared.Parts.{Parts}
@@ -17,32 +17,8 @@ use Rattle.archive.specs.Listing.{verdictWord, checkWord, recordLine, st
 
 -- ---- Fields
 
-number-small : (f : Refusal) → numberOf f < 10 ^ 2
-number-small TrailerMissing = omega arith
-number-small MarkOrFormat = omega arith
-number-small TrailerFields = omega arith
-number-small VerdictOrPasses = omega arith
-number-small ProgramLength = omega arith
-number-small FunctionCount = omega arith
-number-small HeaderCut = omega arith
-number-small ParameterKinds = omega arith
-number-small BodyLength = omega arith
-number-small BytesAfterFunctions = omega arith
-number-small MainKind = omega arith
-number-small BodyEnds = omega arith
-number-small TooDeep = omega arith
-number-small ListConstructor = omega arith
-number-small UnknownByte = omega arith
-number-small WrongKind = omega arith
-number-small BytesAfterExpression = omega arith
-number-small RingLength = omega arith
-number-small RingState = omega arith
-number-small TraceLength = omega arith
-number-small TableShort = omega arith
-number-small OutputShort = omega arith
-
 number-short : (f : Refusal) → length (decimal (numberOf f)) ≤ 2
-number-short f = length-decimal 2 (numberOf f) (omega arith) (number-small f)
+number-short f = length-decimal 2 (numberOf f) (omega arith) (omega (arith, number-small f))
 
 decimal-short : (n : ℕ) → n < 10 ^ 5 → length (decimal n) ≤ 5
 decimal-short n h = length-decimal 5 n (omega arith) h

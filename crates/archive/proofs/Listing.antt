@@ -38,7 +38,8 @@ unfolding linesOf
 lines-end listed = rw walk-end
 
 pub lines-record : (listed : ℕ) (bytes : List ℕ) (p : Parts) → reading bytes ≡ read.Record p
-    → linesOf listed (walk bytes) ≡ recordLine (suc listed) (length bytes - p .program .start) p (checking bytes listingCells) ++ linesOf (suc listed) (walk (take (p .program .start) bytes))
+    → linesOf listed (walk bytes) ≡ recordLine (suc listed) (length bytes - p .program .start) p (checking bytes listingCells)
+    ++ linesOf (suc listed) (walk (take (p .program .start) bytes))
 unfolding linesOf
 lines-record listed bytes p e = rw (walk-record bytes p e)
 
@@ -59,17 +60,20 @@ record-short listed bytes p few e more =
     let rest = linesOf (suc listed) (walk (take (p .program .start) bytes)) in
     let line = recordLine (suc listed) size p (checking bytes listingCells) in
     let short = before-short bytes p e in
-    let one : length line ≤ 44 = record-line-short (suc listed) size p (checking bytes listingCells) (omega arith) (omega arith) (omega (arith, w .few)) in
+    let one : length line ≤ 44 =
+    record-line-short (suc listed) size p (checking bytes listingCells) (omega arith) (omega arith) (omega (arith, w .few)) in
     rw (lines-record listed bytes p e) (omega (arith, length-append line rest))
 
 by-reading : (listed : ℕ) (bytes : List ℕ) (r : Reading) → 0 < length bytes → listed + length bytes ≤ mostArchive → reading bytes ≡ r
-    → ((p : Parts) → reading bytes ≡ read.Record p → length (linesOf (suc listed) (walk (take (p .program .start) bytes))) ≤ 2 * length (take (p .program .start) bytes) + 64)
+    → ((p : Parts) → reading bytes ≡ read.Record p
+    → length (linesOf (suc listed) (walk (take (p .program .start) bytes))) ≤ 2 * length (take (p .program .start) bytes) + 64)
     → length (linesOf listed (walk bytes)) ≤ 2 * length bytes + 64
 by-reading listed bytes (read.Record p) h few e more = record-short listed bytes p few e (more p e)
 by-reading listed bytes (read.Refused f) h few e more =
     rw (lines-refused listed bytes f h e) (omega (arith, stop-line-short (suc listed) f (omega arith)))
 
-short-in : (k listed : ℕ) (bytes : List ℕ) → length bytes ≤ k → listed + length bytes ≤ mostArchive → length (linesOf listed (walk bytes)) ≤ 2 * length bytes + 64
+short-in : (k listed : ℕ) (bytes : List ℕ) → length bytes ≤ k → listed + length bytes ≤ mostArchive
+    → length (linesOf listed (walk bytes)) ≤ 2 * length bytes + 64
 short-in zero listed [] h few = rw (lines-end listed) (end-line-short listed (omega arith))
 short-in (suc k) listed [] h few = rw (lines-end listed) (end-line-short listed (omega arith))
 short-in zero listed (b ∷ bs) h few = absurd (omega arith)
@@ -128,17 +132,22 @@ module _ {archive out₀ out table : List ℕ} {left listed at : ℕ} (t : Turn 
     start-below = omega (arith, parts-within bytes p e .start22, size)
 
     pub turn-record : {c : Checked} → c ≡ checking bytes listingCells
-        → Left out₀ 0 (linesOf 0 (walk archive)) out at (recordLine (listed + 1) (left - p .program .start) p c ++ linesOf (listed + 1) (walk (take (p .program .start) archive)))
+        → Left out₀ 0 (linesOf 0 (walk archive)) out at (recordLine (listed + 1) (left - p .program .start) p c
+        ++ linesOf (listed + 1) (walk (take (p .program .start) archive)))
     turn-record c =
-        let before : take (p .program .start) bytes ≡ take (p .program .start) archive = take-take (p .program .start) left archive (omega (arith, start-below)) in
+        let before : take (p .program .start) bytes ≡ take (p .program .start) archive =
+        take-take (p .program .start) left archive (omega (arith, start-below)) in
         rw (add-one listed, c) (rw (lines-record listed bytes p e, before, size) at (t .text))
 
-    pub turn-room : {c : Checked} → c ≡ checking bytes listingCells → at + length (recordLine (listed + 1) (left - p .program .start) p c) ≤ length out
+    pub turn-room : {c : Checked} → c ≡ checking bytes listingCells
+        → at + length (recordLine (listed + 1) (left - p .program .start) p c) ≤ length out
     turn-room {c} same =
-        left-room (recordLine (listed + 1) (left - p .program .start) p c) (linesOf (listed + 1) (walk (take (p .program .start) archive))) (turn-record same)
+        left-room (recordLine (listed + 1) (left - p .program .start) p c) (linesOf (listed + 1) (walk (take (p .program .start) archive)))
+        (turn-record same)
 
     pub turn-next : {out′ table′ : List ℕ} {at′ : ℕ} {c : Checked} → c ≡ checking bytes listingCells → length table′ ≡ listingCells
-        → (at′ ≡ at + length (recordLine (listed + 1) (left - p .program .start) p c)) × (out′ ≡ put at (recordLine (listed + 1) (left - p .program .start) p c) out)
+        → (at′ ≡ at + length (recordLine (listed + 1) (left - p .program .start) p c))
+        × (out′ ≡ put at (recordLine (listed + 1) (left - p .program .start) p c) out)
         → Turn archive out₀ out′ table′ (p .program .start) (listed + 1) at′
     turn-next {c = c} same cells w =
         record {

@@ -1,4 +1,5 @@
 -- Laws of the walk:
+--   step-owed                  what a step answers, and that in numbers
 --   before-short               the bytes before a record are at least 22 fewer than those that end in it
 --   walk-enough                more steps than bytes change nothing
 --   walk-end                   no bytes left is the end
@@ -11,12 +12,28 @@ use native.Mathlib.Omega.{arith}
 use lib.ListN.{length, take}
 use lib.Seq.{length-take-le}
 use Rattle.refusal.specs.declared.Refusal.{Refusal}
+use Rattle.refusal.specs.declared.Check.{Check}
+use Rattle.refusal.specs.declared.Check.the-variants.{Passed, Refused}
+use Rattle.refusal.specs.{answerIf}
 use Rattle.record.specs.declared.Parts.{Parts}
 use Rattle.record.specs.declared.Reading.{Reading}
 use Rattle.record.specs.declared.Reading.the-variants as read
-use Rattle.record.specs.Reading.{reading}
+use Rattle.record.specs.Reading.{partsIn, readCheck, readBy, reading, partsValues}
 use Rattle.record.proofs.Places.{parts-within}
-use Rattle.archive.specs.Walk.{stepBy, Walk, ended, stopped, found, onward, walkIn, walk}
+use Rattle.archive.specs.declared.Step.{Step}
+use Rattle.archive.specs.Walk.{stepBy, stepIn, stepAnswer, stepNumbers, Walk, ended, stopped, found, onward, walkIn, walk}
+
+pub step-owed : (bytes : List ℕ) {r : Step} → r ≡ stepIn bytes → (r ≡ stepIn bytes) × (stepAnswer r ≡ stepNumbers bytes)
+unfolding reading
+step-owed bytes e = (e, ap stepAnswer e ∙ go bytes)
+  where
+    by-check : (k : Check) (p : Parts) → stepAnswer (stepBy (readBy k p)) ≡ answerIf k (partsValues p)
+    by-check Passed p = refl
+    by-check (Refused f) p = refl
+
+    go : (l : List ℕ) → stepAnswer (stepIn l) ≡ stepNumbers l
+    go [] = refl
+    go (b ∷ bs) = by-check (readCheck (b ∷ bs)) (partsIn (b ∷ bs))
 
 pub before-short : (bytes : List ℕ) (p : Parts) → reading bytes ≡ read.Record p → length (take (p .program .start) bytes) + 22 ≤ length bytes
 before-short bytes p e = let w = parts-within bytes p e in rw (length-take-le (p .program .start) bytes (omega arith)) (w .start22)

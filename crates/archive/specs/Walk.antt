@@ -1,15 +1,18 @@
 -- Walking an archive, of document 01: 'records end to end, read from its last byte backwards'.
 use Prim.Native.Nat.{ℕ, zero, suc}
-use mathlib.Core.List.{List, [], _∷_, _++_}
+use mathlib.Core.Logic.{_↔_}
+use mathlib.Core.Path.{_≡_}
+use mathlib.Core.List.{List, [], _∷_, _++_, reverse}
 use lib.ListN.{length, take}
 use Rattle.refusal.specs.declared.Refusal.{Refusal}
 use Rattle.refusal.specs.declared.Check.{Check}
 use Rattle.refusal.specs.declared.Check.the-variants as check
+use Rattle.refusal.specs.{Answer, answered, refusedAs, answerIf}
 use Rattle.record.specs.declared.Parts.{Parts}
 use Rattle.record.specs.declared.Reading.{Reading}
 use Rattle.record.specs.declared.Reading.the-variants as read
-use Rattle.record.specs.Form.{Contents, layout}
-use Rattle.record.specs.Reading.{contentsAt, reading}
+use Rattle.record.specs.Form.{Contents, layout, Stated}
+use Rattle.record.specs.Reading.{contentsAt, reading, partsValues, partsIn, readCheck}
 use Rattle.archive.specs.declared.Step.{Step}
 use Rattle.archive.specs.declared.Step.the-variants as step
 
@@ -28,6 +31,17 @@ stepBy (read.Refused f) = step.Refused f
 abbrev pub stepIn : List ℕ → Step
 stepIn [] = step.End
 stepIn (b ∷ bs) = stepBy (reading (b ∷ bs))
+
+-- the answer in numbers: the parts of a record; the end has none
+abbrev pub stepAnswer : Step → Answer
+stepAnswer step.End = answered []
+stepAnswer (step.Record p) = answered (partsValues p)
+stepAnswer (step.Refused f) = refusedAs f
+
+-- what a step answers, in numbers
+abbrev pub stepNumbers : List ℕ → Answer
+stepNumbers [] = answered []
+stepNumbers (b ∷ bs) = answerIf (readCheck (b ∷ bs)) (partsValues (partsIn (b ∷ bs)))
 
 -- ---- The whole walk
 
@@ -63,3 +77,22 @@ abbrev pub ending : Walk → Check
 ending ended = check.Passed
 ending (stopped f) = check.Refused f
 ending (found bytes p w) = ending w
+
+-- ---- What a walk owes
+
+-- every one of some contents can be held by a record
+abbrev pub AllStated : List Contents → Type 0
+AllStated [] = Unit {0}
+AllStated (c ∷ cs) = Stated c × AllStated cs
+
+-- a walk finds exactly some records, the last first, and then the end
+abbrev pub Finds : List ℕ → List Contents → Type 0
+Finds bytes cs = (records (walk bytes) ≡ reverse cs) × (ending (walk bytes) ≡ check.Passed)
+
+-- the bytes are an archive of them: their layouts, in order, are the whole of it
+abbrev pub IsArchive : List ℕ → List Contents → Type 0
+IsArchive bytes cs = AllStated cs × (bytes ≡ archiveOf cs)
+
+-- both ways
+abbrev pub WalksExactly : List ℕ → Type 0
+WalksExactly bytes = (cs : List Contents) → Finds bytes cs ↔ IsArchive bytes cs

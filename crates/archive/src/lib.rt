@@ -7,7 +7,7 @@ use refusal::Refusal;
 ghost use mathlib.Core.Path.{_≡_};
 ghost use lib.ListN.{length, take};
 ghost use Rattle.encoding.specs.{begins};
-ghost use Rattle.archive.specs.Walk.{stepIn};
+ghost use Rattle.archive.specs.Walk.{stepIn, stepAnswer, stepNumbers};
 ghost use Rattle.archive.specs.Listing.{listing};
 
 // The longest archive that is listed, the cells that its records are checked in, and room for every listing: a
@@ -28,7 +28,8 @@ pub enum Step {
 // The last record among the first `left` bytes of an archive. The bytes before it, with which a walk goes
 // on, are those before its program.
 pub fn last(archive: &[u8], left: usize) -> Step
-    ensures { λ r. ⌜ r ≡ stepIn (take left (now (archive .entry))) ⌝ }
+    ensures answer { λ r. ⌜ r ≡ stepIn (take left (now (archive .entry))) ⌝ }
+    ensures numbers { λ r. ⌜ stepAnswer r ≡ stepNumbers (take left (now (archive .entry))) ⌝ }
 {
     if left < archive.len() {
         return step_of(&archive[..left]);

@@ -29,7 +29,8 @@ enough (suc k) zero n h g = absurd (omega arith)
 enough (suc k) (suc l) n h g = go (ltb n 10) refl (λ many. enough k l (n / 10) (omega arith) (omega arith))
   where
     go : (b : Bool) → ltb n 10 ≡ b → (10 ≤ n → decimalIn k (n / 10) ≡ decimalIn l (n / 10))
-        → cond (ltb n 10) (figure n ∷ []) (decimalIn k (n / 10) ++ (figure (n % 10) ∷ [])) ≡ cond (ltb n 10) (figure n ∷ []) (decimalIn l (n / 10) ++ (figure (n % 10) ∷ []))
+        → cond (ltb n 10) (figure n ∷ []) (decimalIn k (n / 10) ++ (figure (n % 10) ∷ []))
+        ≡ cond (ltb n 10) (figure n ∷ []) (decimalIn l (n / 10) ++ (figure (n % 10) ∷ []))
     go true e ih = rw e
     go false e ih = rw (e, ih (ltb-false n 10 e))
 
@@ -90,7 +91,8 @@ pub record Writing (n : ℕ) (figures : List ℕ) (rest first : ℕ) : Type 0 wh
   pub few : rest < 10 ^ (first + 1)
   pub written : above rest ++ drop first figures ≡ decimal n
 
-pub figures-start : (n : ℕ) (figures : List ℕ) {last : ℕ} → length figures ≡ 10 → n < 10 ^ 10 → last ≡ figure (n % 10) → Writing n (set figures 9 last) n 9
+pub figures-start : (n : ℕ) (figures : List ℕ) {last : ℕ} → length figures ≡ 10 → n < 10 ^ 10 → last ≡ figure (n % 10)
+    → Writing n (set figures 9 last) n 9
 figures-start n figures {last} size few e =
     record {
       size = length-set figures 9 last ∙ size;
@@ -117,7 +119,14 @@ module _ {n rest first : ℕ} {figures : List ℕ} (w : Writing n figures rest f
         within = omega (arith, w .within);
         few = rw (add-one (first - 1), after) (omega arith);
         written =
-            rw (drop-set figures (first - 1) next (omega (arith, w .size, w .within)), after, e, ← append-snoc, ← decimal-last (rest / 10), ← above-more rest many) (w .written);
+            rw (
+              drop-set figures (first - 1) next (omega (arith, w .size, w .within)),
+              after,
+              e,
+              ← append-snoc,
+              ← decimal-last (rest / 10),
+              ← above-more rest many,
+            ) (w .written);
       }
 
   pub figures-end : rest < 10 → (first ≤ 9) × (drop first figures ≡ decimal n)

@@ -51,7 +51,8 @@ pub begins-end : (text out : List ℕ) (i : ℕ) → length text ≤ i → begin
 begins-end text out i h = ap (λ (l : List ℕ). begins l out) (take-all i text h)
 
 -- a text, and one more put after it
-begins-after : (text more out : List ℕ) → take (length text) (begins text out) ++ begins more (drop (length text) (begins text out)) ≡ begins (text ++ more) out
+begins-after : (text more out : List ℕ)
+    → take (length text) (begins text out) ++ begins more (drop (length text) (begins text out)) ≡ begins (text ++ more) out
 unfolding begins
 begins-after text more out =
     rw (
@@ -102,7 +103,8 @@ length-put at text out = go (leb (at + length text) (length out)) refl
     go true e =
         let room : at + length text ≤ length out = leb-true (at + length text) (length out) e in
         let rest : length (drop at out) ≡ length out - at = length-drop at out in
-        rw (room-put at text out room, length-append, length-take-le at out (omega arith), length-begins text (drop at out) (omega arith)) (omega arith)
+        rw (room-put at text out room, length-append, length-take-le at out (omega arith), length-begins text (drop at out) (omega arith))
+        (omega arith)
     go false e = ap length (sym (no-room at text out (leb-false (at + length text) (length out) e) .1))
 
 -- ---- A text put in pieces: what is left of it, and the place for that
@@ -110,7 +112,8 @@ length-put at text out = go (leb (at + length text) (length out)) refl
 -- what stands before a place stays where a text is put at the front of what stands after it
 past : (front ys more : List ℕ) (at n : ℕ) → length front ≡ at
     → take (at + n) (front ++ ys) ++ begins more (drop (at + n) (front ++ ys)) ≡ front ++ (take n ys ++ begins more (drop n ys))
-past front ys more at n e = rw (← e, take-append-add front ys n, drop-append-add front ys n) (append-assoc front (take n ys) (begins more (drop n ys)))
+past front ys more at n e =
+    rw (← e, take-append-add front ys n, drop-append-add front ys n) (append-assoc front (take n ys) (begins more (drop n ys)))
 
 -- a text put at a place, and one more put after it
 put-append : (at : ℕ) (text more out : List ℕ) → at + length (text ++ more) ≤ length out

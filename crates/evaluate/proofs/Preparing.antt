@@ -19,18 +19,18 @@ use Rattle.refusal.proofs.Checks.{either-passed}
 use Rattle.trace.specs.{mostSamples, bytesFor, samples}
 use Rattle.trace.proofs.Packing.{length-samples}
 use Rattle.semantics.specs.Language.{Program}
-use Rattle.semantics.specs.Table.{cells}
-use Rattle.rule.specs.declared.Layout.{Layout}
+use Rattle.semantics.specs.Numbering.{cells, mostCells}
+use Rattle.rule.specs.declared.Outline.{Outline}
 use Rattle.rule.specs.Form.{Accepted, mostFunctions}
-use Rattle.rule.specs.Layout.{layoutOf, layoutFrom}
+use Rattle.rule.specs.Outline.{outlineOf, outlineFrom}
 use Rattle.rule.specs.Reading.{Parsed, got, checkFrom, programFrom, programCheck}
 use Rattle.rule.specs.Reading as reading
 use Rattle.rule.proofs.Programs.{read-encoded}
 use Rattle.fixpoint.specs.declared.setup.Cells.{Cells}
-use Rattle.fixpoint.specs.Limits.{mostCells}
 use Rattle.evaluate.specs.Evaluate.{traceCheck, tableCheck, checkRead, evaluateCheck}
-use Rattle.fixpoint.specs.Mirror.{totalBefore, functionsUpto}
+use Rattle.fixpoint.specs.Mirror.{functionsOf, totalOf}
 use Rattle.evaluate.specs.Settled.{Settled}
+use Rattle.fixpoint.proofs.SetupLoops.{functions-of, total-of}
 use Rattle.fixpoint.proofs.FunctionsMeaning.{total-means}
 
 module _ (bytes trace : List ℕ) (n lent : ℕ) where
@@ -64,23 +64,26 @@ table-passed needed lent e q =
     (ltb-false lent needed (h .0), ltb-false mostCells needed (h .1))
 
 module _ {bytes : List ℕ} {P : Program} (a : Accepted bytes P) where
-  pub layout-is : {layout : Layout} → layout ≡ layoutFrom (programFrom bytes) → layout ≡ layoutOf P
-  layout-is e = e ∙ ap layoutFrom (read-encoded bytes P a)
+  pub outline-is : {outline : Outline} → outline ≡ outlineFrom (programFrom bytes) → outline ≡ outlineOf P
+  outline-is e = e ∙ ap outlineFrom (read-encoded bytes P a)
 
-  pub functions-few : {layout : Layout} → layout ≡ layoutFrom (programFrom bytes) → layout .functions ≤ mostFunctions
-  unfolding layoutOf
-  functions-few e = rw (layout-is e) (a .few)
+  functions-few : {outline : Outline} → outline ≡ outlineFrom (programFrom bytes) → outline .functions ≤ mostFunctions
+  unfolding outlineOf
+  functions-few e = rw (outline-is e) (a .few)
 
-  module _ {layout : Layout} (l : layout ≡ layoutFrom (programFrom bytes)) (n : ℕ) {places : Cells}
-      (f : places .functions ≡ functionsUpto (layout .kinds) (layout .params) n (layout .functions))
-      (s : places .total ≡ totalBefore (layout .kinds) (layout .params) n (layout .functions)) where
+  module _ {outline : Outline} (l : outline ≡ outlineFrom (programFrom bytes)) (n : ℕ) (few : n ≤ mostSamples) {places : Cells}
+      (f : places .functions ≡ functionsOf (outline .kinds) (outline .params) n (outline .functions))
+      (s : places .total ≡ totalOf (outline .kinds) (outline .params) n (outline .functions)) where
     pub total-is : (trace : List ℕ) → places .total ≡ cells (samples trace n) P
-    unfolding layoutOf
-    total-is trace = s ∙ rw (layout-is l) (rw (length-samples trace n) at (total-means a (samples trace n)))
+    unfolding outlineOf
+    total-is trace =
+        s
+        ∙ total-of (outline .kinds) (outline .params) n (outline .functions) few (functions-few l)
+        ∙ rw (outline-is l) (rw (length-samples trace n) at (total-means a (samples trace n)))
 
-    pub settled : (trace : List ℕ) (lent : ℕ) {c d : Check} → c ≡ traceCheck n (length trace) → c ≡ Passed → d ≡ tableCheck (places .total) lent → d ≡ Passed
-        → Settled bytes trace n layout places lent
-    unfolding layoutOf
+    pub settled : (trace : List ℕ) (lent : ℕ) {c d : Check} → c ≡ traceCheck n (length trace) → c ≡ Passed
+        → d ≡ tableCheck (places .total) lent → d ≡ Passed → Settled bytes trace n outline places lent
+    unfolding outlineOf
     settled trace lent tc tp dc dp =
         let t = trace-passed n (length trace) tc tp in
         let r = table-passed (places .total) lent dc dp in
@@ -90,8 +93,8 @@ module _ {bytes : List ℕ} {P : Program} (a : Accepted bytes P) where
           accepted = a;
           few = t .0;
           packed = t .1;
-          laid = layout-is l;
-          first = f ∙ rw (layout-is l);
+          laid = outline-is l;
+          first = f ∙ functions-of (outline .kinds) (outline .params) n (outline .functions) few (functions-few l) ∙ rw (outline-is l);
           total = total;
           fits = rw total at (r .1);
           room = rw total at (r .0);

@@ -3,12 +3,16 @@
 use mathlib.Core.Path.{_≡_, refl}
 use mathlib.Core.Bool.{true}
 use Rattle.trace.specs.{bitOf, bytesFor, sampleAt, samples, binary, pack, packed}
-use Rattle.semantics.specs.Table.{held, bodyOutcome, lookup, heldAt, stored, visit, visits, stores, pass, passStores, tableAfter, passesFrom, passCount, finalTable, mainDecision, verdictOf}
+use Rattle.encoding.specs.{fromLow}
+use Rattle.semantics.specs.Cells.{outcomeIn}
+use Rattle.semantics.specs.Bodies.{bodyOutcome}
+use Rattle.semantics.specs.Visits.{lookup, heldAt, stored, visit, visits, stores, pass, passStores}
+use Rattle.semantics.specs.Passes.{tableAfter, passesFrom, passCount, finalTable}
+use Rattle.semantics.specs.Verdicts.{mainDecision, verdictOf}
 use Rattle.rule.specs.Reading.{headerOf, kindsFrom, rawsFrom, nodeOf, argsFrom, exprFrom, functionsFrom, programFrom}
-use Rattle.rule.specs.Rows.{rows}
 use Rattle.evaluate.specs.Evaluate.{evaluateCheck, evaluation}
-use Rattle.evaluate.specs.Rows.{allGive}
+use Rattle.evaluate.specs.Rows.{rows, allGive}
 
 pub rows-given : allGive 4 rows ≡ true
-unfolding bitOf bytesFor sampleAt samples binary pack packed held bodyOutcome lookup heldAt stored visit visits stores pass passStores tableAfter passesFrom passCount finalTable mainDecision verdictOf headerOf kindsFrom rawsFrom nodeOf argsFrom exprFrom functionsFrom programFrom evaluateCheck evaluation
+unfolding bitOf bytesFor sampleAt samples binary pack packed outcomeIn bodyOutcome lookup heldAt stored visit visits stores pass passStores tableAfter passesFrom passCount finalTable mainDecision verdictOf fromLow headerOf kindsFrom rawsFrom nodeOf argsFrom exprFrom functionsFrom programFrom evaluateCheck evaluation
 rows-given = refl

@@ -1,19 +1,24 @@
 -- 'Evaluating' of document 01: its refusals (5 to 17, 20, 21), its answer and what it leaves in the table.
 use Prim.Native.Nat.{ℕ}
+use mathlib.Core.Path.{_≡_}
 use mathlib.Core.Bool.{not, _||_}
-use mathlib.Core.List.{List, [], _++_}
+use mathlib.Core.List.{List, [], _∷_}
 use lib.Dec.{eqb, ltb}
-use lib.ListN.{length, drop}
+use lib.ListN.{length}
 use Rattle.refusal.specs.declared.Refusal.the-variants.{TraceLength, TableShort}
 use Rattle.refusal.specs.declared.Check.{Check}
 use Rattle.refusal.specs.declared.Check.the-variants as check
-use Rattle.refusal.specs.{numberOf, refuseIf, _then_, changedIf}
+use Rattle.refusal.specs.{refuseIf, _then_, changedIf, Answer, answered, refusedAs}
 use Rattle.trace.specs.{mostSamples, bytesFor, samples}
 use Rattle.semantics.specs.declared.Verdict.{Verdict}
 use Rattle.semantics.specs.Language.{Program}
-use Rattle.semantics.specs.Table.{cells, pass, passStores, finalTable, verdictOf}
-use Rattle.rule.specs.Reading.{Parsed, got, refused, programFrom}
-use Rattle.fixpoint.specs.Limits.{mostCells}
+use Rattle.semantics.specs.Numbering.{cells, mostCells}
+use Rattle.semantics.specs.Visits.{pass, passStores}
+use Rattle.semantics.specs.Verdicts.{verdictOf, verdictValues}
+use Rattle.semantics.specs.Demand.{Decides}
+use Rattle.rule.specs.Form.{Accepted}
+use Rattle.semantics.specs.Passes.{decidedTable}
+use Rattle.rule.specs.Reading.{Parsed, got, refused, programFrom, programOf}
 use Rattle.evaluate.specs.declared.Evaluated.{Evaluated}
 use Rattle.evaluate.specs.declared.Evaluated.the-variants as evaluated
 use Rattle.evaluate.specs.declared.PassMade.{PassMade}
@@ -35,11 +40,6 @@ checkRead (refused f) trace n lent = check.Refused f
 unfoldable pub evaluateCheck : List ℕ → List ℕ → ℕ → ℕ → Check
 evaluateCheck program trace n lent = checkRead (programFrom program) trace n lent
 
--- the program that accepted bytes stand for
-abbrev pub programIn : Parsed Program → Program
-programIn (got P rest) = P
-programIn (refused f) = []
-
 -- ---- Evaluating
 
 abbrev pub answerBy : Check → Verdict → Evaluated
@@ -48,19 +48,24 @@ answerBy (check.Refused f) v = evaluated.Refused f
 
 unfoldable pub evaluation : List ℕ → List ℕ → ℕ → ℕ → Evaluated
 evaluation program trace n lent =
-    answerBy (evaluateCheck program trace n lent) (verdictOf (programIn (programFrom program)) (samples trace n))
+    answerBy (evaluateCheck program trace n lent) (verdictOf (programOf program) (samples trace n))
 
--- 'all needed cells start at 0, whatever the lent table held; cells beyond them keep their content'
+-- what it leaves in the table
 unfoldable pub tableEvaluated : List ℕ → List ℕ → ℕ → List ℕ → List ℕ
 tableEvaluated program trace n table =
-    let P = programIn (programFrom program) in
-    let t = samples trace n in
-    changedIf (evaluateCheck program trace n (length table)) (finalTable P t ++ drop (cells t P) table) table
+    changedIf (evaluateCheck program trace n (length table)) (decidedTable (programOf program) (samples trace n) table) table
 
--- the number of an answer, 0 for none
-abbrev pub evaluatedNumber : Evaluated → ℕ
-evaluatedNumber (evaluated.Verdict v) = 0
-evaluatedNumber (evaluated.Refused f) = numberOf f
+-- the answer in numbers: the verdict's, and its pass count
+abbrev pub evaluatedAnswer : Evaluated → Answer
+evaluatedAnswer (evaluated.Verdict v) = answered (verdictValues v)
+evaluatedAnswer (evaluated.Refused f) = refusedAs f
+
+-- Demand 3: for the program that the bytes are accepted as, a trace that 20 leaves and a table that 21 leaves, a verdict is
+-- told, and it and the table are what they should be
+abbrev pub Demand3 : List ℕ → List ℕ → ℕ → ℕ → (Verdict → Type 0) → List ℕ → Type 0
+Demand3 program trace n lent Told table =
+    (P : Program) → Accepted program P → traceCheck n (length trace) ≡ check.Passed → tableCheck (cells (samples trace n) P) lent ≡ check.Passed
+    → (v : Verdict) × Told v × Decides P (samples trace n) v table
 
 -- ---- A single pass over a table with any content
 
@@ -70,8 +75,13 @@ madeBy (check.Refused f) stored = made.Refused f
 
 unfoldable pub passMade : List ℕ → List ℕ → ℕ → List ℕ → PassMade
 passMade program trace n table =
-    madeBy (evaluateCheck program trace n (length table)) (passStores (programIn (programFrom program)) (samples trace n) table)
+    madeBy (evaluateCheck program trace n (length table)) (passStores (programOf program) (samples trace n) table)
+
+-- the answer in numbers: how many outcomes were stored
+abbrev pub madeAnswer : PassMade → Answer
+madeAnswer (made.Stored k) = answered (k ∷ [])
+madeAnswer (made.Refused f) = refusedAs f
 
 unfoldable pub tablePassed : List ℕ → List ℕ → ℕ → List ℕ → List ℕ
 tablePassed program trace n table =
-    changedIf (evaluateCheck program trace n (length table)) (pass (programIn (programFrom program)) (samples trace n) table) table
+    changedIf (evaluateCheck program trace n (length table)) (pass (programOf program) (samples trace n) table) table

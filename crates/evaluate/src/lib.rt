@@ -1,21 +1,20 @@
 // The verdict of a rule program on a trace, in a table that the caller lends.
+mod decide;
 mod prepare;
 
 use refusal::Check;
 use refusal::Refusal;
 use semantics::Verdict;
 ghost use mathlib.Core.Path.{_≡_};
+ghost use mathlib.Core.List.{[], _∷_};
 ghost use lib.ListN.{length};
+ghost use Rattle.refusal.specs.{answerIf};
 ghost use Rattle.trace.specs.{samples};
-ghost use Rattle.semantics.specs.declared.Verdict.{Verdict};
-ghost use Rattle.semantics.specs.Language.{Program};
-ghost use Rattle.semantics.specs.Demand.{Decides};
-ghost use Rattle.rule.specs.Form.{Accepted};
+ghost use Rattle.semantics.specs.Visits.{passStores};
+ghost use Rattle.semantics.specs.Verdicts.{verdictOf, verdictValues};
+ghost use Rattle.rule.specs.Reading.{programOf};
 ghost use Rattle.evaluate.specs.declared.Evaluated.the-variants as Evaluated;
-ghost use Rattle.evaluate.specs.Evaluate.{evaluateCheck, evaluation, tableEvaluated, passMade, tablePassed};
-
-// The most cells of a table.
-pub const MOST_CELLS: u64 = 16777216;
+ghost use Rattle.evaluate.specs.Evaluate.{evaluateCheck, evaluation, evaluatedAnswer, tableEvaluated, Demand3, passMade, madeAnswer, tablePassed};
 
 // What evaluating answers: the verdict with its pass count, or the refusal.
 pub enum Evaluated {
@@ -41,20 +40,21 @@ pub fn check(program: &[u8], trace: &[u8], n: usize, lent: usize) -> Check
 // their content, and a refusal changes none.
 pub fn evaluate(program: &[u8], trace: &[u8], n: usize, table: &mut [u16]) -> Evaluated
     ensures answer { λ r. ⌜ r ≡ evaluation (now (program .entry)) (now (trace .entry)) n (length (now (table .entry))) ⌝ }
+    ensures numbers { λ r. ⌜ evaluatedAnswer r ≡ answerIf (evaluateCheck (now (program .entry)) (now (trace .entry)) n (length (now (table .entry)))) (verdictValues (verdictOf (programOf (now (program .entry))) (samples (now (trace .entry)) n))) ⌝ }
     ensures cells { λ _. ⌜ now (table .exit) ≡ tableEvaluated (now (program .entry)) (now (trace .entry)) n (now (table .entry)) ⌝ }
-    ensures decides { λ r. ⌜ ((v : Verdict) → r ≡ Evaluated.Verdict v → (P : Program) × Accepted (now (program .entry)) P × Decides P (samples (now (trace .entry)) n) v (now (table .exit))) ⌝ }
+    ensures decides { λ r. ⌜ Demand3 (now (program .entry)) (now (trace .entry)) n (length (now (table .entry))) (λ v. r ≡ Evaluated.Verdict v) (now (table .exit)) ⌝ }
 {
     let ready = prepare::prepare(program, trace, n, table.len());
     let check = ready.check;
-    let layout = ready.layout;
+    let outline = ready.outline;
     let cells = ready.cells;
     match check {
         Check::Refused(refusal) => Evaluated::Refused(refusal),
-        Check::Passed => Evaluated::Verdict(prepare::decide(
+        Check::Passed => Evaluated::Verdict(decide::decide(
             program,
             trace,
             n as u16,
-            layout,
+            outline,
             cells,
             table,
         )),
@@ -65,19 +65,20 @@ pub fn evaluate(program: &[u8], trace: &[u8], n: usize, table: &mut [u16]) -> Ev
 // outcome of its function's kind counts as undecided. A caller runs it on part of a table by lending that part.
 pub fn pass(program: &[u8], trace: &[u8], n: usize, table: &mut [u16]) -> PassMade
     ensures answer { λ r. ⌜ r ≡ passMade (now (program .entry)) (now (trace .entry)) n (now (table .entry)) ⌝ }
+    ensures numbers { λ r. ⌜ madeAnswer r ≡ answerIf (evaluateCheck (now (program .entry)) (now (trace .entry)) n (length (now (table .entry)))) (passStores (programOf (now (program .entry))) (samples (now (trace .entry)) n) (now (table .entry)) ∷ []) ⌝ }
     ensures cells { λ _. ⌜ now (table .exit) ≡ tablePassed (now (program .entry)) (now (trace .entry)) n (now (table .entry)) ⌝ }
 {
     let ready = prepare::prepare(program, trace, n, table.len());
     let check = ready.check;
-    let layout = ready.layout;
+    let outline = ready.outline;
     let cells = ready.cells;
     match check {
         Check::Refused(refusal) => PassMade::Refused(refusal),
-        Check::Passed => PassMade::Stored(prepare::pass_once(
+        Check::Passed => PassMade::Stored(decide::pass_once(
             program,
             trace,
             n as u16,
-            layout,
+            outline,
             cells,
             table,
         )),

@@ -8,6 +8,7 @@ use native.Mathlib.Nat.{zero-add, zero-mul, mul-le-mul-left, mul-le-mul-right}
 use native.Mathlib.Numerals.{add-one}
 use native.Mathlib.Omega.{arith}
 use mathlib.Core.Path.{_≡_, refl, sym, ap, _∙_}
+use mathlib.Core.Bool.{cond}
 use mathlib.Core.List.{List, [], _∷_}
 use mathlib.Core.Option.{Option, none, some}
 use lib.ListN.{length, getElem?}
@@ -19,17 +20,19 @@ use Rattle.semantics.specs.declared.Outcome.{Outcome}
 use Rattle.semantics.specs.declared.Outcome.the-variants.{Truth, Suffix, Failed}
 use Rattle.semantics.specs.Language.{Kind, truth, list, Function, Program, Trace, Value, bit, suffix, given, inKind, InKinds}
 use Rattle.semantics.specs.Rules.{Arguments, values, failed}
-use Rattle.semantics.specs.Table.{pick, kindSize, digitOf, size, number, codeOf, contentOf, withValue, withValues, Table, lookup}
+use Rattle.semantics.specs.Numbering.{kindSize, digitOf, size, number, mostCells}
+use Rattle.semantics.specs.Cells.{codeOf, contentOf}
+use Rattle.semantics.specs.Bodies.{withValue, withValues}
+use Rattle.semantics.specs.Visits.{Table, lookup}
 use Rattle.semantics.proofs.Numbering.{size-pos, number-lt}
 use Rattle.semantics.proofs.Visits.{lookup-held}
-use Rattle.rule.specs.Form.{isList, kindsByte}
+use Rattle.rule.specs.Form.{isList}
 use Rattle.rule.specs.Reading.{kindAt, kindsFrom}
 use Rattle.rule.proofs.KindBytes.{kinds-back}
 use Rattle.rule.proofs.WalkMeaning.{kind-bit}
-use Rattle.fixpoint.specs.Limits.{mostCells}
-use Rattle.fixpoint.specs.Mirror.{Setup, bound, nextIndex, radixOf, digitCode, stops, kindsOf, endAt, lookupAt, argsAt}
+use Rattle.fixpoint.specs.Mirror.{Setup, bound, digitBound, nextIndex, radixOf, digitCode, endsCall, kindsOf, endAt, lookupAt, argsAt}
 use Rattle.fixpoint.proofs.Sets.{firstCell, Sets}
-use Rattle.fixpoint.proofs.CellMeaning.{first-cell, first-within, held-means}
+use Rattle.fixpoint.proofs.CellMeaning.{first-cell, first-within, result-bit, decided-means}
 use Rattle.fixpoint.proofs.CodeMeaning.{OfKind, digit-means, value-goes, radix-means}
 
 -- ---- The look-up
@@ -41,12 +44,11 @@ unfolding lookupAt
 lookup-means P t bytes S s T g f vs e h =
     let within = first-within t P g f e in
     let below = number-lt t (f .params) vs h in
-    let byte = kindsByte (f .params) (f .result) in
-    let kind : bitOf 4 byte ≡ isList (f .result) = sym (kind-bit byte 4) ∙ ap isList (kinds-back (f .params) (f .result) (s .params g f e) .1) in
+    let kind = result-bit (f .params) (f .result) (s .params g f e) in
     let first-low = lt-ltb (firstCell t P g) bound (omega (arith, s .fits)) in
     let index-low = lt-ltb (number t (f .params) vs) bound (omega (arith, s .fits)) in
     simp (s .first g f e, s .kinds g f e, first-low, index-low, kind, lookup-held P t T g vs f e, first-cell t P g f vs e)
-    (held-means t (f .result) _)
+    (decided-means t (f .result) _)
 
 -- ---- One more digit
 
@@ -62,13 +64,13 @@ digit-within index radix digit s b h l =
 regroup : (a r d s m : ℕ) → (a * r + d) * s + m ≡ a * (r * s) + (d * s + m)
 regroup a r d s m = omega arith
 
-next-index : (index radix digit : ℕ) → index < bound → radix < 65536 → digit < 65536 → nextIndex index radix digit ≡ index * radix + digit
-next-index index radix digit h l m = simp (lt-ltb index bound h, lt-ltb radix 65536 l, lt-ltb digit 65536 m)
+next-index : (index radix digit : ℕ) → index < bound → radix < digitBound → digit < digitBound → nextIndex index radix digit ≡ index * radix + digit
+next-index index radix digit h l m = simp (lt-ltb index bound h, lt-ltb radix digitBound l, lt-ltb digit digitBound m)
 
 digit-below : (t : Trace) (κ : Kind) (v : Value) → dec.T (inKind t κ v) → digitOf v < kindSize t κ
 digit-below t κ v h = omega (arith, number-lt t (κ ∷ []) (v ∷ []) (h, tt))
 
-radix-below : (t : Trace) (κ : Kind) → length t ≤ mostSamples → kindSize t κ < 65536
+radix-below : (t : Trace) (κ : Kind) → length t ≤ mostSamples → kindSize t κ < digitBound
 radix-below t truth h = omega arith
 radix-below t list h = omega arith
 
@@ -91,12 +93,12 @@ module _ (t : Trace) (κ : Kind) (index : ℕ) (short : length t ≤ mostSamples
     (rs : Option Arguments) (k : List Value → Option Outcome)
     (more : (v : Value) → dec.T (inKind t κ v) → later (index * kindSize t κ + digitOf v) ≡ contentOf (withValues Failed rs (λ ws. k (v ∷ ws)))) where
   value-means : (v : Value) → dec.T (inKind t κ v) → c ≡ codeOf (given v)
-      → pick (stops c) c (later (nextIndex index (radixOf (isList κ) (length t)) (digitCode c)))
+      → cond (endsCall c) c (later (nextIndex index (radixOf (isList κ) (length t)) (digitCode c)))
       ≡ contentOf (withValues Failed (withValues failed rs (λ ws. some (values (v ∷ ws)))) k)
   value-means v h e = rw (e, value-goes v, next-means t κ v index short low h, with-rest v rs k) (more v h)
 
   arg-means : (r : Option Outcome) → OfKind t κ r → c ≡ contentOf r
-      → pick (stops c) c (later (nextIndex index (radixOf (isList κ) (length t)) (digitCode c)))
+      → cond (endsCall c) c (later (nextIndex index (radixOf (isList κ) (length t)) (digitCode c)))
       ≡ contentOf (withValues Failed (withValue failed r (λ v. withValues failed rs (λ ws. some (values (v ∷ ws))))) k)
   arg-means none h e = rw e
   arg-means (some (Truth b)) h e = value-means (bit b) (h (Truth b) refl) e

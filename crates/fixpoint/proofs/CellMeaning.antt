@@ -2,22 +2,27 @@
 --   first-cell       the cell of a configuration, by its number in its function
 --   first-within     a function's cells lie among those of the program
 --   config-first     the configuration of a cell of a function
---   held-means       the number of what a cell holds
+--   result-bit       a function's result kind, by its kinds byte
+--   decided-means    the number of what a cell holds
 use Prim.Native.Nat.{ℕ, zero, suc, _+_, _-_, _≤_, _<_}
 use native.Mathlib.Omega.{arith}
-use mathlib.Core.Path.{_≡_, refl, _∙_}
-use mathlib.Core.Bool.{Bool, true, false}
+use mathlib.Core.Path.{_≡_, refl, sym, ap, _∙_}
+use mathlib.Core.Bool.{Bool, true, false, cond}
 use mathlib.Core.List.{List, [], _∷_}
 use mathlib.Core.Option.{none, some}
 use lib.ListN.{length, getElem?}
 use lib.Dec.{leb}
 use borrow.Author.Tests.{lt-ltb, le-ltb, leb-true, leb-false}
+use Rattle.trace.specs.{bitOf}
 use Rattle.semantics.specs.declared.Outcome.the-variants.{Suffix}
 use Rattle.semantics.specs.Language.{Kind, truth, list, Function, Program, Trace, Value}
-use Rattle.semantics.specs.Table.{pick, size, number, valuesAt, cells, cellOf, configAt, contentOf, held}
+use Rattle.semantics.specs.Numbering.{size, number, valuesAt, cells, cellOf, configAt}
+use Rattle.semantics.specs.Cells.{contentOf, outcomeIn}
 use Rattle.semantics.proofs.Numbering.{number-values, values-in, config-cell}
-use Rattle.rule.specs.Form.{isList}
-use Rattle.fixpoint.specs.Mirror.{heldCode}
+use Rattle.rule.specs.Form.{mostParams, isList, kindsByte}
+use Rattle.rule.proofs.KindBytes.{kinds-back}
+use Rattle.rule.proofs.WalkMeaning.{kind-bit}
+use Rattle.fixpoint.specs.Mirror.{decidedCode}
 use Rattle.fixpoint.proofs.Sets.{firstCell}
 
 -- ---- Places of cells
@@ -42,14 +47,17 @@ config-first t P g f i e h =
 
 -- ---- What a cell holds
 
+pub result-bit : (params : List Kind) (result : Kind) → length params ≤ mostParams → bitOf 4 (kindsByte params result) ≡ isList result
+result-bit params result few = sym (kind-bit (kindsByte params result) 4) ∙ ap isList (kinds-back params result few .1)
+
 -- a list function's cell that is the number of a suffix
-held-suffix : (n k cell : ℕ) → cell ≡ 5 + k → heldCode true n cell ≡ contentOf (pick (leb k n) (some (Suffix k)) none)
-held-suffix n k cell e = go (leb k n) refl
+decided-suffix : (n k cell : ℕ) → cell ≡ 5 + k → decidedCode true n cell ≡ contentOf (cond (leb k n) (some (Suffix k)) none)
+decided-suffix n k cell e = go (leb k n) refl
   where
     back : cell - 5 ≡ k
     back = omega arith
 
-    go : (b : Bool) → leb k n ≡ b → heldCode true n cell ≡ contentOf (pick b (some (Suffix k)) none)
+    go : (b : Bool) → leb k n ≡ b → decidedCode true n cell ≡ contentOf (cond b (some (Suffix k)) none)
     go true h =
         let l = leb-true k n h in
         simp (le-ltb cell 3 (omega arith), le-ltb cell 5 (omega arith), back, le-ltb n k l) e
@@ -57,17 +65,17 @@ held-suffix n k cell e = go (leb k n) refl
         let l = leb-false k n h in
         simp (le-ltb cell 3 (omega arith), le-ltb cell 5 (omega arith), back, lt-ltb n k l)
 
-pub held-means : (t : Trace) (κ : Kind) (cell : ℕ) → heldCode (isList κ) (length t) cell ≡ contentOf (held t κ cell)
-unfolding held
-held-means t truth zero = refl
-held-means t truth (suc zero) = refl
-held-means t truth (suc (suc zero)) = refl
-held-means t truth (suc (suc (suc zero))) = refl
-held-means t truth (suc (suc (suc (suc zero)))) = refl
-held-means t truth (suc (suc (suc (suc (suc k))))) = rw (lt-ltb 4 (suc (suc (suc (suc (suc k))))) (omega arith))
-held-means t list zero = refl
-held-means t list (suc zero) = refl
-held-means t list (suc (suc zero)) = refl
-held-means t list (suc (suc (suc zero))) = refl
-held-means t list (suc (suc (suc (suc zero)))) = refl
-held-means t list (suc (suc (suc (suc (suc k))))) = held-suffix (length t) k (suc (suc (suc (suc (suc k))))) (omega arith)
+pub decided-means : (t : Trace) (κ : Kind) (cell : ℕ) → decidedCode (isList κ) (length t) cell ≡ contentOf (outcomeIn t κ cell)
+unfolding outcomeIn
+decided-means t truth zero = refl
+decided-means t truth (suc zero) = refl
+decided-means t truth (suc (suc zero)) = refl
+decided-means t truth (suc (suc (suc zero))) = refl
+decided-means t truth (suc (suc (suc (suc zero)))) = refl
+decided-means t truth (suc (suc (suc (suc (suc k))))) = rw (lt-ltb 4 (suc (suc (suc (suc (suc k))))) (omega arith))
+decided-means t list zero = refl
+decided-means t list (suc zero) = refl
+decided-means t list (suc (suc zero)) = refl
+decided-means t list (suc (suc (suc zero))) = refl
+decided-means t list (suc (suc (suc (suc zero)))) = refl
+decided-means t list (suc (suc (suc (suc (suc k))))) = decided-suffix (length t) k (suc (suc (suc (suc (suc k))))) (omega arith)

@@ -7,7 +7,7 @@
 use Prim.Native.Nat.{ℕ, zero, suc, _+_, _-_, _<_}
 use native.Mathlib.Omega.{arith}
 use mathlib.Core.Path.{_≡_, refl, _∙_}
-use mathlib.Core.Bool.{Bool, true, false}
+use mathlib.Core.Bool.{Bool, true, false, cond}
 use mathlib.Core.List.{List}
 use mathlib.Core.Option.{Option, none, some}
 use lib.ListN.{length, getD}
@@ -17,9 +17,11 @@ use Rattle.semantics.specs.declared.Error.the-variants.{Head, Tail}
 use Rattle.semantics.specs.declared.Outcome.{Outcome}
 use Rattle.semantics.specs.declared.Outcome.the-variants.{Truth, Suffix, Failed}
 use Rattle.semantics.specs.Language.{Kind, truth, list, hd, tl, null, Trace, Value, bit, suffix, given}
-use Rattle.semantics.specs.Table.{pick, kindSize, digitOf, codeOf, contentOf, ofKind, withValue, operated, chosen}
+use Rattle.semantics.specs.Numbering.{kindSize, digitOf}
+use Rattle.semantics.specs.Cells.{falseCode, trueCode, suffixCode, codeOf, contentOf, ofKind}
+use Rattle.semantics.specs.Bodies.{withValue, operated, chosen}
 use Rattle.rule.specs.Form.{isList}
-use Rattle.fixpoint.specs.Mirror.{sampleCode, headOf, tailOf, nullOf, digitCode, radixOf, stops, Setup, branchBy, endAt}
+use Rattle.fixpoint.specs.Mirror.{sampleCode, headOf, tailOf, nullOf, digitCode, radixOf, endsCall, Setup, branchBy, endAt}
 
 -- no outcome, or one of a kind
 abbrev pub OfKind : Trace → Kind → Option Outcome → Type 0
@@ -28,14 +30,14 @@ OfKind t κ r = (o : Outcome) → r ≡ some o → T (ofKind t κ o)
 -- ---- Operations on a list
 
 -- the length in the number of a suffix
-suffix-code : (k : ℕ) → 5 + k - 5 ≡ k
+suffix-code : (k : ℕ) → suffixCode + k - suffixCode ≡ k
 suffix-code k = omega arith
 
-truth-code : (b : Bool) → pick b 2 1 ≡ codeOf (Truth b)
+truth-code : (b : Bool) → cond b trueCode falseCode ≡ codeOf (Truth b)
 truth-code true = refl
 truth-code false = refl
 
-module _ (t : Trace) (trace : List ℕ) (same : (i : ℕ) → i < length t → sampleCode trace i ≡ pick (getD t i false) 2 1) where
+module _ (t : Trace) (trace : List ℕ) (same : (i : ℕ) → i < length t → sampleCode trace i ≡ cond (getD t i false) trueCode falseCode) where
   pub head-means : (r : Option Outcome) → OfKind t list r → headOf trace (length t) (contentOf r) ≡ contentOf (withValue Failed r (operated t hd))
   head-means none h = refl
   head-means (some (Truth b)) h = absurd (h (Truth b) refl)
@@ -83,7 +85,7 @@ digit-means (bit true) = refl
 digit-means (bit false) = refl
 digit-means (suffix k) = simp (le-ltb (5 + k) 5 (omega arith)) (suffix-code k)
 
-pub value-goes : (v : Value) → stops (codeOf (given v)) ≡ false
+pub value-goes : (v : Value) → endsCall (codeOf (given v)) ≡ false
 value-goes (bit true) = refl
 value-goes (bit false) = refl
 value-goes (suffix k) = simp (ne-eqb (5 + k) 0 (λ z. omega arith), ne-eqb (5 + k) 3 (λ z. omega arith), ne-eqb (5 + k) 4 (λ z. omega arith))

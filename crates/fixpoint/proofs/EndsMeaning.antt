@@ -17,13 +17,14 @@ use Rattle.semantics.specs.Language.{Kind, truth, list, Op, hd, tl, null, Expr,
 use Rattle.rule.specs.declared.Node.{Node}
 use Rattle.rule.specs.Form.{mostParams, mostBytes, opByte, encodeExpr, encodeArgs, padded, Accepted}
 use Rattle.rule.specs.Reading.{nodeOf}
-use Rattle.rule.specs.Layout.{layoutOf}
+use Rattle.rule.specs.Outline.{outlineOf}
 use Rattle.rule.proofs.Padded.{getD-padded}
 use Rattle.rule.proofs.NodeBytes.{opNode, node-false, node-true, node-empty, node-if, node-op, node-param, node-call}
 use Rattle.rule.proofs.Expressions.{place-below}
 use Rattle.rule.proofs.FunctionBytes.{expr-bytes}
+use Rattle.rule.proofs.WalkMeaning.{at-most-four}
 use Rattle.fixpoint.specs.Mirror.{endAt, endsAfter, argumentsOf, operandsOf, endBy, endsDown}
-use Rattle.fixpoint.proofs.FunctionsMeaning.{params-at, few-small}
+use Rattle.fixpoint.proofs.FunctionsMeaning.{params-at}
 
 -- an expression that meets a kind starts at a place; Γ are the kinds of its function's parameters
 record Starts (P : Program) (bytes : List ℕ) (at : ℕ) (e : Expr) : Type 0 where
@@ -65,7 +66,7 @@ module _ (P : Program) (bytes : List ℕ) (short : length bytes ≤ mostBytes) (
   unfolding endAt
   operand κ e at rest h m d =
       let s : Starts P bytes at e = record { Γ = Γ; κ = κ; narrow = narrow; meets = m; rest = rest; here = d } in
-      (rw (lt-ltb at 4096 (omega (arith, starts-within bytes at e s))) (u .right at e h s), after bytes at (encodeExpr e) rest d)
+      (rw (lt-ltb at mostBytes (omega (arith, starts-within bytes at e s))) (u .right at e h s), after bytes at (encodeExpr e) rest d)
 
   operands : (xs : Args) (κs : List Kind) (at : ℕ) (rest : List ℕ) → low ≤ at → MeetAll P Γ κs xs → drop at bytes ≡ encodeArgs xs ++ rest
       → endsAfter ends (length κs) at ≡ at + length (encodeArgs xs)
@@ -81,33 +82,33 @@ module _ (P : Program) (bytes : List ℕ) (short : length bytes ≤ mostBytes) (
 
 -- how many arguments a call has
 arguments-mean : {bytes : List ℕ} {P : Program} → Accepted bytes P → (g : ℕ) (f : Function) → getElem? P g ≡ some f
-    → argumentsOf (layoutOf P .params) g ≡ length (f .params)
+    → argumentsOf (outlineOf P .params) g ≡ length (f .params)
 arguments-mean {P = P} a g f e =
-    rw (lt-ltb g 32 (omega (arith, place-below P g f e, a .few)), params-at P g f e) (few-small (length (f .params)) (a .fits g f e .params))
+    rw (lt-ltb g 32 (omega (arith, place-below P g f e, a .few)), params-at P g f e) (at-most-four (length (f .params)) (a .fits g f e .params))
 
 module _ {bytes : List ℕ} {P : Program} (a : Accepted bytes P) (ends : List ℕ) (at : ℕ) where
   -- by the node that stands there
   by-node : (b : ℕ) (bs : List ℕ) (n : Node) → drop at bytes ≡ b ∷ bs → nodeOf b ≡ n
-      → endBy (padded mostBytes 0 bytes) (layoutOf P .params) ends at ≡ endsAfter ends (operandsOf (layoutOf P .params) n) (at + 1)
+      → endBy (padded mostBytes 0 bytes) (outlineOf P .params) ends at ≡ endsAfter ends (operandsOf (outlineOf P .params) n) (at + 1)
   unfolding endBy
   by-node b bs n d e =
-      ap (λ (x : Node). endsAfter ends (operandsOf (layoutOf P .params) x) (at + 1)) (ap nodeOf (getD-padded mostBytes 0 bytes at ∙ byte-here bytes at d) ∙ e)
+      ap (λ (x : Node). endsAfter ends (operandsOf (outlineOf P .params) x) (at + 1)) (ap nodeOf (getD-padded mostBytes 0 bytes at ∙ byte-here bytes at d) ∙ e)
 
   module _ (u : Ends P bytes (at + 1) ends) (Γ : List Kind) (narrow : length Γ ≤ mostParams) (rest : List ℕ) where
     op-end : (p : Op) (e : Expr) → Meets P Γ list e → drop at bytes ≡ opByte p ∷ (encodeExpr e ++ rest)
-        → endBy (padded mostBytes 0 bytes) (layoutOf P .params) ends at ≡ at + 1 + length (encodeExpr e)
+        → endBy (padded mostBytes 0 bytes) (outlineOf P .params) ends at ≡ at + 1 + length (encodeExpr e)
     unfolding endsAfter
     op-end p e m d =
         by-node _ _ _ d (node-op p) ∙ one p ∙ operand P bytes (a .short) (at + 1) ends u Γ narrow list e (at + 1) rest (omega arith) m (bytes-after bytes at d) .0
       where
-        one : (q : Op) → endsAfter ends (operandsOf (layoutOf P .params) (opNode q)) (at + 1) ≡ endAt ends (at + 1)
+        one : (q : Op) → endsAfter ends (operandsOf (outlineOf P .params) (opNode q)) (at + 1) ≡ endAt ends (at + 1)
         one hd = refl
         one tl = refl
         one null = refl
 
     if-end : (κ : Kind) (c x y : Expr) → Meets P Γ truth c → Meets P Γ κ x → Meets P Γ κ y
         → drop at bytes ≡ 0x23 ∷ (encodeExpr c ++ (encodeExpr x ++ (encodeExpr y ++ rest)))
-        → endBy (padded mostBytes 0 bytes) (layoutOf P .params) ends at ≡ at + 1 + length (encodeExpr c) + length (encodeExpr x) + length (encodeExpr y)
+        → endBy (padded mostBytes 0 bytes) (outlineOf P .params) ends at ≡ at + 1 + length (encodeExpr c) + length (encodeExpr x) + length (encodeExpr y)
     unfolding endsAfter
     if-end κ c x y mc mx my d =
         let at₁ = at + 1 in
@@ -123,14 +124,14 @@ module _ {bytes : List ℕ} {P : Program} (a : Accepted bytes P) (ends : List �
 
     call-end : (g : ℕ) (f : Function) (xs : Args) → getElem? P g ≡ some f → MeetAll P Γ (f .params) xs
         → drop at bytes ≡ (0x80 + g) ∷ (encodeArgs xs ++ rest)
-        → endBy (padded mostBytes 0 bytes) (layoutOf P .params) ends at ≡ at + 1 + length (encodeArgs xs)
+        → endBy (padded mostBytes 0 bytes) (outlineOf P .params) ends at ≡ at + 1 + length (encodeArgs xs)
     call-end g f xs e m d =
         by-node _ _ _ d (node-call {g = g} (omega (arith, place-below P g f e, a .few)))
         ∙ ap (λ (n : ℕ). endsAfter ends n (at + 1)) (arguments-mean a g f e)
         ∙ operands P bytes (a .short) (at + 1) ends u Γ narrow xs (f .params) (at + 1) rest (omega arith) m (bytes-after bytes at d)
 
   node-end : Ends P bytes (at + 1) ends → (e : Expr) → Starts P bytes at e
-      → endBy (padded mostBytes 0 bytes) (layoutOf P .params) ends at ≡ at + length (encodeExpr e)
+      → endBy (padded mostBytes 0 bytes) (outlineOf P .params) ends at ≡ at + length (encodeExpr e)
   unfolding endsAfter encodeExpr
   node-end u (constant false) s = by-node _ _ _ (s .here) node-false
   node-end u (constant true) s = by-node _ _ _ (s .here) node-true
@@ -147,9 +148,9 @@ module _ {bytes : List ℕ} {P : Program} (a : Accepted bytes P) (ends : List �
 
 -- one more end
 ends-one : {bytes : List ℕ} {P : Program} → Accepted bytes P → (at : ℕ) (later : List ℕ) → at < mostBytes → Ends P bytes (at + 1) later
-    → Ends P bytes at (set later at (endBy (padded mostBytes 0 bytes) (layoutOf P .params) later at))
+    → Ends P bytes at (set later at (endBy (padded mostBytes 0 bytes) (outlineOf P .params) later at))
 ends-one {bytes} {P} a at later h u =
-    let end = endBy (padded mostBytes 0 bytes) (layoutOf P .params) later at in
+    let end = endBy (padded mostBytes 0 bytes) (outlineOf P .params) later at in
     record {
       long = length-set later at end ∙ u .long;
       right = λ p e l s. ⊎-elim
@@ -160,17 +161,17 @@ ends-one {bytes} {P} a at later h u =
 
 module _ {bytes : List ℕ} {P : Program} (a : Accepted bytes P) (z : List ℕ) (long : length z ≡ mostBytes) where
   -- the ends that the first k turns leave
-  ends-upto : (k at : ℕ) → at + k ≡ length bytes → Ends P bytes at (endsDown (padded mostBytes 0 bytes) (layoutOf P .params) k at z)
+  ends-upto : (k at : ℕ) → at + k ≡ length bytes → Ends P bytes at (endsDown (padded mostBytes 0 bytes) (outlineOf P .params) k at z)
   unfolding endsDown
   ends-upto zero at e = record { long = long; right = λ p x h s. absurd (omega (arith, starts-within bytes p x s)) }
   ends-upto (suc k) at e =
-      let later = endsDown (padded mostBytes 0 bytes) (layoutOf P .params) k (at + 1) z in
+      let later = endsDown (padded mostBytes 0 bytes) (outlineOf P .params) k (at + 1) z in
       let u = ends-upto k (at + 1) (omega arith) in
       ends-one a at later (omega (arith, a .short)) u
 
 pub ends-mean : {bytes : List ℕ} {P : Program} → Accepted bytes P → (at : ℕ) (Γ : List Kind) (κ : Kind) (e : Expr) (rest : List ℕ) → length Γ ≤ mostParams
     → Meets P Γ κ e → drop at bytes ≡ encodeExpr e ++ rest
-    → getD (endsDown (padded mostBytes 0 bytes) (layoutOf P .params) (length bytes) 0 (replicate 4096 0)) at 0 ≡ at + length (encodeExpr e)
+    → getD (endsDown (padded mostBytes 0 bytes) (outlineOf P .params) (length bytes) 0 (replicate mostBytes 0)) at 0 ≡ at + length (encodeExpr e)
 ends-mean {bytes} {P} a at Γ κ e rest narrow m d =
-    ends-upto a (replicate 4096 0) (length-replicate {A = ℕ} 4096 0) (length bytes) 0 (omega arith) .right at e (omega arith)
+    ends-upto a (replicate mostBytes 0) (length-replicate {A = ℕ} mostBytes 0) (length bytes) 0 (omega arith) .right at e (omega arith)
     (record { Γ = Γ; κ = κ; narrow = narrow; meets = m; rest = rest; here = d })

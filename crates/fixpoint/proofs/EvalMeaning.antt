@@ -11,7 +11,9 @@ use borrow.Author.Tests.{lt-ltb, lt-leb}
 use Rattle.semantics.specs.declared.Outcome.{Outcome}
 use Rattle.semantics.specs.declared.Outcome.the-variants.{Failed}
 use Rattle.semantics.specs.Language.{Kind, truth, list, Op, hd, tl, null, Expr, constant, empty, param, op, ifte, call, Args, noArgs, arg, Program, Trace, Value, InKinds, Meets, MeetAll}
-use Rattle.semantics.specs.Table.{contentOf, paramValue, bodyOutcome, argsOutcome, withValues, Table, lookup}
+use Rattle.semantics.specs.Cells.{contentOf}
+use Rattle.semantics.specs.Bodies.{paramValue, bodyOutcome, argsOutcome, withValues}
+use Rattle.semantics.specs.Visits.{Table, lookup}
 use Rattle.semantics.proofs.Bodies.{kinded}
 use Rattle.semantics.proofs.Visits.{lookup-kinds}
 use Rattle.rule.specs.Form.{mostParams, encodeExpr, encodeArgs, depth, depthAll}

@@ -18,10 +18,12 @@ use Rattle.trace.specs.{bitOf}
 use Rattle.semantics.specs.Language.{hd, tl, null}
 use Rattle.rule.specs.declared.Node.{Node}
 use Rattle.rule.specs.declared.Node.the-variants as node
+use Rattle.rule.specs.Form.{mostBytes}
 use Rattle.rule.specs.Reading.{nodeOf}
 use Rattle.rule.proofs.NodeBytes.{node-false, node-true, node-param, node-op}
 use Rattle.fixpoint.proofs.SetupLoops.{few-bound}
-use Rattle.fixpoint.specs.Mirror.{Setup, headOf, tailOf, nullOf, heldCode, digitCode, radixOf, bound, nextIndex, firstOf, kindsOf, countOf, paramAt, endAt, lookupAt, stops, argsAt, nodeBy, evalAt, branchAt, callAt}
+use Rattle.fixpoint.specs.Mirror.{Setup, headOf, tailOf, nullOf, decidedCode, digitCode, radixOf, bound, nextIndex, firstOf, kindsOf}
+use Rattle.fixpoint.specs.Mirror.{countOf, paramAt, endAt, lookupAt, endsCall, argsAt, nodeBy, evalAt, branchAt, callAt}
 
 module _ (functions table : List ℕ) (n g index : ℕ) where
   pub lookup-far : bound ≤ firstOf functions g → lookupAt functions table n g index ≡ 0
@@ -32,7 +34,8 @@ module _ (functions table : List ℕ) (n g index : ℕ) where
   unfolding lookupAt
   lookup-beyond h l = simp (lt-ltb _ _ h, le-ltb _ _ l)
 
-  pub lookup-held : firstOf functions g < bound → index < bound → {list : Bool} {cell : ℕ} → list ≡ bitOf 4 (kindsOf functions g) → getD table (firstOf functions g + index) 0 ≡ cell → lookupAt functions table n g index ≡ heldCode list n cell
+  pub lookup-held : firstOf functions g < bound → index < bound → {list : Bool} {cell : ℕ} → list ≡ bitOf 4 (kindsOf functions g)
+      → getD table (firstOf functions g + index) 0 ≡ cell → lookupAt functions table n g index ≡ decidedCode list n cell
   unfolding lookupAt
   lookup-held h l e q = simp (lt-ltb _ _ h, lt-ltb _ _ l, sym e, q)
 
@@ -46,7 +49,7 @@ module _ (S : Setup) (table env : List ℕ) (d at : ℕ) where
   unfolding evalAt
   eval-deep e = rw e
 
-  pub eval-past : 4096 ≤ at → evalAt S table env d at ≡ 0
+  pub eval-past : mostBytes ≤ at → evalAt S table env d at ≡ 0
   unfolding evalAt
   eval-past h = go d
     where
@@ -55,7 +58,7 @@ module _ (S : Setup) (table env : List ℕ) (d at : ℕ) where
       go (suc d) = simp (le-leb _ _ h)
 
   -- a byte b that the code read at the place
-  module _ (h : at < 4096) (e : d ≡ 0 → ⊥) {b : ℕ} (r : b ≡ getD (S .code) at 0) where
+  module _ (h : at < mostBytes) (e : d ≡ 0 → ⊥) {b : ℕ} (r : b ≡ getD (S .code) at 0) where
     pub eval-node : {k : Node} → nodeOf b ≡ k → evalAt S table env d at ≡ nodeBy S table env (evalAt S table env (d - 1)) (at + 1) k
     unfolding evalAt
     eval-node {k} q = go d e
@@ -122,7 +125,7 @@ module _ {S : Setup} {table : List ℕ} {n : ℕ} {eval : ℕ → ℕ} {g count 
   along-next : i < count → argsAt S table n eval g count 0 0 at ≡ argsAt S table n eval g (suc (count - (i + 1))) i index place
   along-next h = let z : count - i ≡ suc (count - (i + 1)) = omega arith in sym (u .rest) ∙ ap (λ (c : ℕ). argsAt S table n eval g c i index place) z
 
-  pub along-stop : i < count → {v : ℕ} (k : ℕ) → v ≡ eval place → v ≡ k → stops k ≡ true → argsAt S table n eval g count 0 0 at ≡ k
+  pub along-stop : i < count → {v : ℕ} (k : ℕ) → v ≡ eval place → v ≡ k → endsCall k ≡ true → argsAt S table n eval g count 0 0 at ≡ k
   unfolding argsAt
   along-stop h k e q s = along-next h ∙ simp (sym e ∙ q, s)
 

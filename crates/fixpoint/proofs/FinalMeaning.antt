@@ -1,58 +1,60 @@
 -- Passes from zeros, in a table that may go on after the cells, by places and numbers:
---   ends-mean        they come to a pass that stores nothing, in time
 --   table-means      the table that they leave
 --   passes-mean      how many they are
 use Prim.Native.Nat.{ℕ, zero, suc, _+_, _≤_, _<_}
 use native.Mathlib.Omega.{arith}
 use native.Mathlib.Decide.{ℕ-discrete}
 use mathlib.Core.Path.{_≡_, sym, _∙_}
-use mathlib.Core.Logic.{_≢_, inl, inr}
+use mathlib.Core.Logic.{_≢_}
 use mathlib.Core.List.{List, _++_}
-use lib.ListN.{length, replicate}
+use lib.ListN.{length, replicate, length-append}
 use borrow.Author.Tests.{eq-eqb, ne-eqb}
 use Rattle.semantics.specs.Language.{Program, Trace}
-use Rattle.semantics.specs.Table.{cells, Table, passStores, tableAfter, passCount, finalTable}
+use Rattle.semantics.specs.Numbering.{cells}
+use Rattle.semantics.specs.Visits.{Table, passStores}
+use Rattle.semantics.specs.Passes.{tableAfter, passCount, finalTable}
 use Rattle.semantics.specs.Demand.{FirstStill}
 use Rattle.semantics.proofs.Passes.{length-after, first-still, count-in-time, pass-append, stores-append}
-use Rattle.fixpoint.specs.Mirror.{Setup, passVisits, passCounts, tableFrom, passesFrom, mostPasses, Ends}
+use Rattle.fixpoint.specs.Mirror.{Setup, passVisits, passCounts, tableFrom, passesRun, mostPasses}
 use Rattle.fixpoint.proofs.PassMeaning.{Runs, pass-means, counts-mean}
 
 module _ (P : Program) (t : Trace) (bytes : List ℕ) (S : Setup) (starts : List ℕ) (r : Runs P t bytes S starts) (rest : List ℕ) where
+  -- what the first k passes leave has room for the cells
+  room : (k : ℕ) → cells t P ≤ length (tableAfter P t k ++ rest)
+  room k = omega (arith, length-after P t k, length-append (tableAfter P t k) rest)
+
   -- the pass after the first k
   next-table : (k : ℕ) → passVisits S (length t) starts (length P) (tableAfter P t k ++ rest) ≡ tableAfter P t (suc k) ++ rest
   unfolding tableAfter
   next-table k =
-      pass-means P t bytes S starts r (tableAfter P t k ++ rest)
+      pass-means P t bytes S starts r (tableAfter P t k ++ rest) (room k)
       ∙ pass-append P t (r .kinds) (tableAfter P t k) rest (omega (arith, length-after P t k))
 
   next-stores : (k : ℕ) → passCounts S (length t) starts (length P) (tableAfter P t k ++ rest) ≡ passStores P t (tableAfter P t k)
   next-stores k =
-      counts-mean P t bytes S starts r (tableAfter P t k ++ rest)
+      counts-mean P t bytes S starts r (tableAfter P t k ++ rest) (room k)
       ∙ stores-append P t (r .kinds) (tableAfter P t k) rest (omega (arith, length-after P t k))
 
   -- from table W, left by the first k passes, `fuel` more are enough to come to pass `last`, the first that stores nothing
   record Reaches (fuel k last : ℕ) (W : Table) : Type 0 where
-    ends : Ends S (length t) starts (length P) fuel W
     table : tableFrom S (length t) starts (length P) fuel W ≡ tableAfter P t last ++ rest
-    passes : k + passesFrom S (length t) starts (length P) fuel W ≡ last
+    passes : k + passesRun S (length t) starts (length P) fuel W ≡ last
 
   reaches-here : (fuel k : ℕ) → passStores P t (tableAfter P t k) ≡ 0 → Reaches (suc fuel) k (suc k) (tableAfter P t k ++ rest)
-  unfolding tableFrom passesFrom Ends
+  unfolding tableFrom passesRun
   reaches-here fuel k still =
       let none = next-stores k ∙ still in
       record {
-        ends = inl none;
         table = rw (eq-eqb _ _ none) (next-table k);
         passes = rw (eq-eqb _ _ none) (omega arith);
       }
 
   reaches-later : (fuel k last : ℕ) → passStores P t (tableAfter P t k) ≢ 0 → Reaches fuel (suc k) last (tableAfter P t (suc k) ++ rest)
       → Reaches (suc fuel) k last (tableAfter P t k ++ rest)
-  unfolding tableFrom passesFrom Ends
+  unfolding tableFrom passesRun
   reaches-later fuel k last stores later =
       let some = ne-eqb _ 0 (λ z. stores (sym (next-stores k) ∙ z)) in
       record {
-        ends = inr (rw (next-table k) (later .ends));
         table = rw (some, next-table k) (later .table);
         passes = rw (some, next-table k) (omega (arith, later .passes));
       }
@@ -77,12 +79,9 @@ module _ (P : Program) (t : Trace) (bytes : List ℕ) (S : Setup) (starts : List
   in-time : cells t P < mostPasses
   in-time = omega (arith, r .sets .fits)
 
-  pub ends-mean : Ends S (length t) starts (length P) mostPasses (replicate (cells t P) 0 ++ rest)
-  ends-mean = from-zeros mostPasses in-time .ends
-
   pub table-means : tableFrom S (length t) starts (length P) mostPasses (replicate (cells t P) 0 ++ rest) ≡ finalTable P t ++ rest
   unfolding finalTable
   table-means = from-zeros mostPasses in-time .table
 
-  pub passes-mean : passesFrom S (length t) starts (length P) mostPasses (replicate (cells t P) 0 ++ rest) ≡ passCount P t
+  pub passes-mean : passesRun S (length t) starts (length P) mostPasses (replicate (cells t P) 0 ++ rest) ≡ passCount P t
   passes-mean = omega (arith, from-zeros mostPasses in-time .passes)

@@ -1,12 +1,11 @@
 -- What stands in the array of functions:
---   params-at, kinds-at                       what stands in the layout of a program for each function
---   few-small                                 a count of at most four parameters
---   radix-means, size-means                   how many values a kind has, how many configurations a function has
+--   params-at, kinds-at                       what stands in the outline of a program for each function
+--   radix-by-bit, size-means                   how many values a kind has, how many configurations a function has
 --   total-means                               the cells of all
 --   first-means, kinds-mean, count-means      the first cell, the kinds byte, the count of each function
 use mathlib.Core.Path.{_≡_, refl, ap, _∙_}
 use mathlib.Core.Logic.{⊎-elim}
-use mathlib.Core.Bool.{Bool, true, false}
+use mathlib.Core.Bool.{Bool, true, false, cond}
 use mathlib.Core.List.{List, [], _∷_}
 use mathlib.Core.Option.{some}
 use Prim.Native.Nat.{ℕ, zero, suc, _+_, _<_, _≤_}
@@ -15,38 +14,36 @@ use native.Mathlib.Numerals.{add-one}
 use native.Mathlib.Omega.{arith}
 use lib.ListN.{length, getElem?, getD, set, take, length-set, length-replicate}
 use lib.Seq.{take-length, getD-set-same, getD-set-other}
-use borrow.Author.Tests.{lt-ltb}
 use Rattle.trace.specs.{bitOf}
 use Rattle.semantics.specs.Language.{Kind, truth, list, Function, Program, Trace}
-use Rattle.semantics.specs.Table.{pick, kindSize, size, cells}
+use Rattle.semantics.specs.Numbering.{kindSize, size, cells}
 use Rattle.rule.specs.Form.{mostFunctions, mostParams, kindsByte, Accepted}
 use Rattle.rule.specs.Reading.{kindAt, kindsFrom}
-use Rattle.rule.specs.Layout.{layoutOf}
+use Rattle.rule.specs.Outline.{outlineOf}
 use Rattle.rule.proofs.Padded.{getD-padded}
 use Rattle.rule.proofs.KindBytes.{kinds-back}
 use Rattle.rule.proofs.Expressions.{place-below}
-use Rattle.rule.proofs.LayoutMeaning.{there, getD-mapped}
-use Rattle.fixpoint.specs.Mirror.{radixOf, few, sizeFrom, firstOf, kindsOf, countOf, totalBefore, functionsUpto}
+use Rattle.rule.proofs.OutlineMeaning.{there, getD-mapped}
+use Rattle.rule.proofs.WalkMeaning.{at-most-four}
+use Rattle.rule.specs.Walk.{atMostFour}
+use Rattle.fixpoint.specs.Mirror.{radixOf, sizeFrom, firstOf, kindsOf, countOf, totalBefore, functionsUpto}
 use Rattle.fixpoint.proofs.Sets.{firstCell}
 
 module _ (P : Program) (g : ℕ) (f : Function) (e : getElem? P g ≡ some f) where
-  pub params-at : getD (layoutOf P .params) g 0 ≡ length (f .params)
-  unfolding layoutOf
+  pub params-at : getD (outlineOf P .params) g 0 ≡ length (f .params)
+  unfolding outlineOf
   params-at = getD-padded mostFunctions 0 _ g ∙ getD-mapped (λ (x : Function). length (x .params)) P g f 0 e
 
-  pub kinds-at : getD (layoutOf P .kinds) g 0 ≡ kindsByte (f .params) (f .result)
-  unfolding layoutOf
+  pub kinds-at : getD (outlineOf P .kinds) g 0 ≡ kindsByte (f .params) (f .result)
+  unfolding outlineOf
   kinds-at = getD-padded mostFunctions 0 _ g ∙ getD-mapped (λ (x : Function). kindsByte (x .params) (x .result)) P g f 0 e
-
-pub few-small : (count : ℕ) → count ≤ mostParams → few count ≡ count
-few-small count h = rw (lt-ltb count 5 (omega arith))
 
 -- ---- Sizes
 
-pub radix-means : (t : Trace) (k i : ℕ) → radixOf (bitOf i k) (length t) ≡ kindSize t (kindAt k i)
-radix-means t k i = go (bitOf i k)
+pub radix-by-bit : (t : Trace) (k i : ℕ) → radixOf (bitOf i k) (length t) ≡ kindSize t (kindAt k i)
+radix-by-bit t k i = go (bitOf i k)
   where
-    go : (b : Bool) → radixOf b (length t) ≡ kindSize t (pick b list truth)
+    go : (b : Bool) → radixOf b (length t) ≡ kindSize t (cond b list truth)
     go true = add-one (length t)
     go false = refl
 
@@ -54,7 +51,7 @@ radix-means t k i = go (bitOf i k)
 size-from : (t : Trace) (k i n : ℕ) → sizeFrom k (length t) i n ≡ size t (kindsFrom k i n)
 unfolding sizeFrom kindsFrom
 size-from t k i zero = refl
-size-from t k i (suc n) = rw (radix-means t k i, add-one i, size-from t k (suc i) n)
+size-from t k i (suc n) = rw (radix-by-bit t k i, add-one i, size-from t k (suc i) n)
 
 pub size-means : (t : Trace) (params : List Kind) (result : Kind) → length params ≤ mostParams
     → sizeFrom (kindsByte params result) (length t) 0 (length params) ≡ size t params
@@ -68,13 +65,13 @@ cells-more t (x ∷ P) zero f e = let same : f ≡ x = cc in rw same (omega arit
 cells-more t (x ∷ P) (suc g) f e = omega (arith, cells-more t P g f e)
 
 module _ (P : Program) (t : Trace) (small : (g : ℕ) (f : Function) → getElem? P g ≡ some f → length (f .params) ≤ mostParams) where
-  total-before : (g : ℕ) → g ≤ length P → totalBefore (layoutOf P .kinds) (layoutOf P .params) (length t) g ≡ firstCell t P g
+  total-before : (g : ℕ) → g ≤ length P → totalBefore (outlineOf P .kinds) (outlineOf P .params) (length t) g ≡ firstCell t P g
   unfolding totalBefore
   total-before zero h = refl
   total-before (suc g) h =
       let x = there P g h in
       let f = x .0 in
-      rw (kinds-at P g f (x .1), params-at P g f (x .1), few-small (length (f .params)) (small g f (x .1)), size-means t (f .params) (f .result) (small g f (x .1)), total-before g (omega arith))
+      rw (kinds-at P g f (x .1), params-at P g f (x .1), at-most-four (length (f .params)) (small g f (x .1)), size-means t (f .params) (f .result) (small g f (x .1)), total-before g (omega arith))
       (cells-more t P g f (x .1))
 
 -- ---- The array
@@ -140,18 +137,18 @@ module _ {bytes : List ℕ} {P : Program} (a : Accepted bytes P) (t : Trace) whe
   small : (g : ℕ) (f : Function) → getElem? P g ≡ some f → length (f .params) ≤ mostParams
   small g f e = a .fits g f e .params
 
-  pub total-means : totalBefore (layoutOf P .kinds) (layoutOf P .params) (length t) (length P) ≡ cells t P
+  pub total-means : totalBefore (outlineOf P .kinds) (outlineOf P .params) (length t) (length P) ≡ cells t P
   total-means = total-before P t small (length P) (omega arith) ∙ ap (cells t) (take-length P)
 
   module _ (g : ℕ) (f : Function) (e : getElem? P g ≡ some f) where
-    entry-of : Entry (layoutOf P .kinds) (layoutOf P .params) (length t) (functionsUpto (layoutOf P .kinds) (layoutOf P .params) (length t) (length P)) g
-    entry-of = entry (layoutOf P .kinds) (layoutOf P .params) (length t) (length P) g (place-below P g f e) (a .few)
+    entry-of : Entry (outlineOf P .kinds) (outlineOf P .params) (length t) (functionsUpto (outlineOf P .kinds) (outlineOf P .params) (length t) (length P)) g
+    entry-of = entry (outlineOf P .kinds) (outlineOf P .params) (length t) (length P) g (place-below P g f e) (a .few)
 
-    pub first-means : firstOf (functionsUpto (layoutOf P .kinds) (layoutOf P .params) (length t) (length P)) g ≡ firstCell t P g
+    pub first-means : firstOf (functionsUpto (outlineOf P .kinds) (outlineOf P .params) (length t) (length P)) g ≡ firstCell t P g
     first-means = entry-of .first ∙ total-before P t small g (omega (arith, place-below P g f e))
 
-    pub kinds-mean : kindsOf (functionsUpto (layoutOf P .kinds) (layoutOf P .params) (length t) (length P)) g ≡ kindsByte (f .params) (f .result)
+    pub kinds-mean : kindsOf (functionsUpto (outlineOf P .kinds) (outlineOf P .params) (length t) (length P)) g ≡ kindsByte (f .params) (f .result)
     kinds-mean = entry-of .kind ∙ kinds-at P g f e
 
-    pub count-means : countOf (functionsUpto (layoutOf P .kinds) (layoutOf P .params) (length t) (length P)) g ≡ length (f .params)
-    count-means = ap few (entry-of .count ∙ params-at P g f e) ∙ few-small (length (f .params)) (small g f e)
+    pub count-means : countOf (functionsUpto (outlineOf P .kinds) (outlineOf P .params) (length t) (length P)) g ≡ length (f .params)
+    count-means = ap atMostFour (entry-of .count ∙ params-at P g f e) ∙ at-most-four (length (f .params)) (small g f e)

@@ -4,7 +4,7 @@ pub mod CodeMeaning
 pub mod PlaceMeaning
 pub mod CallMeaning
 pub mod EvalMeaning
-pub mod Words
+pub mod WordPlaces
 pub mod WordsPut
 pub mod SetupLoops
 pub mod EvalWays

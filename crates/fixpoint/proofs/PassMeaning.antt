@@ -1,15 +1,15 @@
 -- Visits and passes by places and numbers come to those of the rules:
 --   Runs                                what ties a run of passes to the program and the trace
 --   first-more, first-all               where the cells of the next function begin, and where all end
---   covered                             every function has its cells within the table
---   result-bit                          a function's result kind, by its kinds byte
+--   ready                               every function has its cells within the table
 --   stored-means, visit-means           the visit of a configuration
 --   function-means, function-counts     the visits of a function's configurations
 --   pass-means, counts-mean             a pass
 use Prim.Native.Nat.{ℕ, zero, suc, _+_, _≤_, _<_}
 use native.Mathlib.Nat.{add-zero, add-suc}
 use native.Mathlib.Omega.{arith}
-use mathlib.Core.Path.{_≡_, refl, sym, ap, _∙_}
+use mathlib.Core.Path.{_≡_, refl}
+use mathlib.Core.Bool.{cond}
 use mathlib.Core.List.{List, [], _∷_, _++_}
 use mathlib.Core.Option.{Option, none, some}
 use lib.Dec.{eqb}
@@ -18,18 +18,22 @@ use lib.Seq.{take-length}
 use borrow.Author.Tests.{ne-eqb}
 use Rattle.trace.specs.{bitOf}
 use Rattle.semantics.specs.declared.Outcome.{Outcome}
-use Rattle.semantics.specs.Language.{Kind, Function, Program, Trace, WellKinded}
-use Rattle.semantics.specs.Table.{pick, size, valuesAt, cells, contentOf, held, bodyOutcome, Table, lookup, heldAt, ifUndecided, stored, storedIn, oneIf, visit, visits, stores, pass, passStores}
+use Rattle.semantics.specs.Language.{Function, Program, Trace, WellKinded}
+use Rattle.semantics.specs.Numbering.{size, valuesAt, cells}
+use Rattle.semantics.specs.Cells.{contentOf, outcomeIn}
+use Rattle.semantics.specs.Bodies.{bodyOutcome}
+use Rattle.semantics.specs.Visits.{Table, lookup, heldAt, ifUndecided, stored, storedIn, oneIf, visit, visits, stores, pass, passStores}
 use Rattle.semantics.proofs.Cells.{code-not-zero}
 use Rattle.semantics.proofs.Numbering.{values-in}
-use Rattle.rule.specs.Form.{mostParams, mostDepth, encodeExpr, depth, isList, kindsByte}
-use Rattle.rule.proofs.KindBytes.{kinds-back}
-use Rattle.rule.proofs.WalkMeaning.{kind-bit}
-use Rattle.rule.proofs.LayoutMeaning.{there}
-use Rattle.fixpoint.specs.Mirror.{heldCode, Setup, kindsOf, sizeOf, envAt, filledAt, storedAt, visitAt, oneUnless, functionVisits, functionStores, passVisits, passCounts, Covered}
+use Rattle.rule.specs.Form.{mostDepth, encodeExpr, depth}
+use Rattle.rule.proofs.Expressions.{place-below}
+use Rattle.rule.proofs.OutlineMeaning.{there}
+use Rattle.fixpoint.specs.Mirror.{decidedCode, Setup, kindsOf, sizeOf, envAt, filledAt, storedAt, visitAt, oneUnless, functionVisits}
+use Rattle.fixpoint.specs.Mirror.{functionStores, Ready, passVisits, passCounts}
 use Rattle.fixpoint.proofs.Sets.{firstCell, EnvOf, Sets}
-use Rattle.fixpoint.proofs.CellMeaning.{first-within, config-first, held-means}
+use Rattle.fixpoint.proofs.CellMeaning.{first-within, config-first, result-bit, decided-means}
 use Rattle.fixpoint.proofs.EvalMeaning.{eval-means}
+use Rattle.fixpoint.proofs.PassWays.{ready-fits}
 
 pub record Runs (P : Program) (t : Trace) (bytes : List ℕ) (S : Setup) (starts : List ℕ) : Type 0 where
   pub sets : Sets P t bytes S
@@ -54,7 +58,7 @@ first-all t P = rw (take-length P)
 
 -- ---- What a visit stores, by its number
 
-stored-number : (old new : Option Outcome) → pick (eqb (contentOf old) 0) (contentOf new) 0 ≡ contentOf (ifUndecided old new)
+stored-number : (old new : Option Outcome) → cond (eqb (contentOf old) 0) (contentOf new) 0 ≡ contentOf (ifUndecided old new)
 stored-number none new = refl
 stored-number (some o) new = rw (ne-eqb _ _ (code-not-zero o))
 
@@ -62,32 +66,24 @@ one-number : (s : Option Outcome) → oneUnless (contentOf s) ≡ oneIf s
 one-number none = refl
 one-number (some o) = rw (ne-eqb _ _ (code-not-zero o))
 
-put-number : (T : Table) (c : ℕ) (s : Option Outcome) → pick (eqb (contentOf s) 0) T (set T c (contentOf s)) ≡ storedIn T c s
+put-number : (T : Table) (c : ℕ) (s : Option Outcome) → cond (eqb (contentOf s) 0) T (set T c (contentOf s)) ≡ storedIn T c s
 put-number T c none = refl
 put-number T c (some o) = rw (ne-eqb _ _ (code-not-zero o))
 
-pub result-bit : (params : List Kind) (result : Kind) → length params ≤ mostParams → bitOf 4 (kindsByte params result) ≡ isList result
-result-bit params result few = sym (kind-bit (kindsByte params result) 4) ∙ ap isList (kinds-back params result few .1)
-
 module _ (P : Program) (t : Trace) (bytes : List ℕ) (S : Setup) (starts : List ℕ) (r : Runs P t bytes S starts) where
-  pub covered : (len : ℕ) → cells t P ≤ len → Covered (S .functions) (length t) (length P) len
-  covered len long = record {
-    few = r .sets .functions;
-    each = λ g h.
-        let f = there P g h in
-        record {
-          below = omega (arith, r .sets .functions);
-          samples = r .sets .samples;
-          within = rw (r .sets .first g (f .0) (f .1), r .sizes g (f .0) (f .1)) (omega (arith, first-within t P g (f .0) (f .1)));
-        };
+  ready : (g : ℕ) (f : Function) → getElem? P g ≡ some f → (len : ℕ) → cells t P ≤ len → Ready (S .functions) (length t) g len
+  ready g f e len long = record {
+    below = omega (arith, place-below P g f e, r .sets .functions);
+    samples = r .sets .samples;
+    within = rw (r .sets .first g f e, r .sizes g f e) (omega (arith, first-within t P g f e));
   }
 
   -- ---- The visit of a configuration
 
-  held-number : (g : ℕ) (f : Function) → getElem? P g ≡ some f → (cell : ℕ)
-      → heldCode (bitOf 4 (kindsOf (S .functions) g)) (length t) cell ≡ contentOf (held t (f .result) cell)
-  held-number g f e cell =
-      rw (r .sets .kinds g f e, result-bit (f .params) (f .result) (r .sets .params g f e)) (held-means t (f .result) cell)
+  decided-number : (g : ℕ) (f : Function) → getElem? P g ≡ some f → (cell : ℕ)
+      → decidedCode (bitOf 4 (kindsOf (S .functions) g)) (length t) cell ≡ contentOf (outcomeIn t (f .result) cell)
+  decided-number g f e cell =
+      rw (r .sets .kinds g f e, result-bit (f .params) (f .result) (r .sets .params g f e)) (decided-means t (f .result) cell)
 
   module _ (T : Table) (g : ℕ) (f : Function) (i : ℕ) (e : getElem? P g ≡ some f) (h : i < size t (f .params)) where
     filled-means : filledAt S (length t) g (getD starts g 0) T i ≡ contentOf (bodyOutcome t (lookup P t T) (valuesAt t (f .params) i) (f .body))
@@ -102,8 +98,8 @@ module _ (P : Program) (t : Trace) (bytes : List ℕ) (S : Setup) (starts : List
     unfolding storedAt stored heldAt
     stored-means =
         let cell = getD T (firstCell t P g + i) 0 in
-        rw (r .sets .first g f e, config-first t P g f i e h, held-number g f e cell, filled-means)
-        (stored-number (held t (f .result) cell) (bodyOutcome t (lookup P t T) (valuesAt t (f .params) i) (f .body)))
+        rw (r .sets .first g f e, config-first t P g f i e h, decided-number g f e cell, filled-means)
+        (stored-number (outcomeIn t (f .result) cell) (bodyOutcome t (lookup P t T) (valuesAt t (f .params) i) (f .body)))
 
     pub visit-means : visitAt S (length t) g (getD starts g 0) T i ≡ visit P t (firstCell t P g + i) T
     unfolding visitAt visit
@@ -135,7 +131,8 @@ module _ (P : Program) (t : Trace) (bytes : List ℕ) (S : Setup) (starts : List
 
   -- ---- A pass
 
-  module _ (T : Table) where
+  -- a table that has room for the cells
+  module _ (T : Table) (room : cells t P ≤ length T) where
     functions-mean : (g : ℕ) → g ≤ length P
         → (passVisits S (length t) starts g T ≡ visits P t (firstCell t P g) T)
         × (passCounts S (length t) starts g T ≡ stores P t (firstCell t P g) T)
@@ -145,9 +142,10 @@ module _ (P : Program) (t : Trace) (bytes : List ℕ) (S : Setup) (starts : List
         let f = there P g h in
         let all = size t (f .0 .params) in
         let more = first-more t P g (f .0) (f .1) in
-        let before = functions-mean g (omega arith) in (
-          rw (more, before .0, r .sizes g (f .0) (f .1)) (function-means T g (f .0) (f .1) all (omega arith)),
-          rw (more, before .0, before .1, r .sizes g (f .0) (f .1)) (function-counts T g (f .0) (f .1) all (omega arith)),
+        let before = functions-mean g (omega arith) in
+        let inside = ready-fits (ready g (f .0) (f .1) (length T) room) in (
+          rw (more, inside, before .0, r .sizes g (f .0) (f .1)) (function-means T g (f .0) (f .1) all (omega arith)),
+          rw (more, inside, before .0, before .1, r .sizes g (f .0) (f .1)) (function-counts T g (f .0) (f .1) all (omega arith)),
         )
 
     pub pass-means : passVisits S (length t) starts (length P) T ≡ pass P t T

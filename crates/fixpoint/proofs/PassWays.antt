@@ -3,22 +3,26 @@
 --   fill-none, fill-stored         the body of an undecided configuration
 --   visit-kept, visit-open         a decided cell, an undecided one
 --   Visited                        some configurations of a function have been visited
---   Covering                       some functions have
+--   ready-fits, fits-ready         the test that a function's cells lie within the table
+--   Covering                       some functions have been visited, or passed over
 --   Running                        some passes have been made, and all stored
+--   cleared-whole, cleared-within  the first cells made undecided
 use mathlib.Core.Path.{_≡_, refl, sym, ap, _∙_}
-use mathlib.Core.Bool.{Bool, true, false}
-use mathlib.Core.Logic.{inl, inr}
-use mathlib.Core.List.{List, [], _∷_}
-use Prim.Native.Nat.{ℕ, zero, suc, _+_, _-_, _*_, _<_, _≤_}
+use mathlib.Core.Bool.{Bool, true, false, _&&_, cond}
+use mathlib.Core.List.{List, [], _∷_, _++_}
+use Prim.Native.Nat.{ℕ, zero, suc, _+_, _-_, _*_, _<_, _≤_, min}
+use native.Mathlib.Nat.{min-eq-left, min-eq-right}
 use native.Mathlib.Numerals.{add-one}
 use native.Mathlib.Omega.{arith}
-use lib.Dec.{eqb}
-use lib.ListN.{length, getD, set, length-set}
-use borrow.Author.Tests.{eq-eqb, ne-eqb}
-use Rattle.trace.specs.{bitOf}
-use Rattle.semantics.specs.Table.{pick}
-use Rattle.rule.specs.Form.{mostDepth}
-use Rattle.fixpoint.specs.Mirror.{heldCode, Setup, firstOf, kindsOf, countOf, valuesInto, evalAt, sizeOf, envAt, filledAt, putAt, filled, storedAt, visitAt, oneUnless, functionVisits, functionStores, passVisits, passCounts, tableFrom, passesFrom, Ends}
+use lib.Dec.{ltb, leb, eqb}
+use lib.Seq.{drop-length}
+use lib.ListN.{length, getD, set, drop, replicate, length-set, drop-of-length-le}
+use borrow.Author.Tests.{ltb-true, le-ltb, leb-true, leb-false, lt-ltb, le-leb, lt-leb, eq-eqb, ne-eqb}
+use Rattle.trace.specs.{mostSamples, bitOf}
+use Rattle.rule.specs.Form.{mostFunctions, mostDepth}
+use Rattle.fixpoint.specs.Mirror.{decidedCode, mostConfigurations, Setup, firstOf, kindsOf, countOf, valuesInto, evalAt, sizeOf}
+use Rattle.fixpoint.specs.Mirror.{envAt, filledAt, putAt, filled, storedAt, visitAt, oneUnless, functionVisits, functionStores, Ready}
+use Rattle.fixpoint.specs.Mirror.{fits, passVisits, passCounts, tableFrom, passesRun, cleared}
 
 pub env-filled : (functions : List ℕ) (n g index : ℕ) {count : ℕ} {env : List ℕ} → count ≡ countOf functions g
     → env ≡ valuesInto (kindsOf functions g) n count index (0 ∷ 0 ∷ 0 ∷ 0 ∷ n ∷ []) → env ≡ envAt functions n g index
@@ -39,21 +43,21 @@ module _ (S : Setup) (n g start : ℕ) (T : List ℕ) (i : ℕ) where
       let same : evalAt S T (envAt (S .functions) n g i) mostDepth start ≡ _ = ap (λ (v : List ℕ). evalAt S T v mostDepth start) (sym e) ∙ sym q in
       (simp (same, ne-eqb _ _ z), simp (same, ne-eqb _ _ z))
 
-  abbrev heldHere : ℕ
-  heldHere = heldCode (bitOf 4 (kindsOf (S .functions) g)) n (getD T (firstOf (S .functions) g + i) 0)
+  abbrev decidedHere : ℕ
+  decidedHere = decidedCode (bitOf 4 (kindsOf (S .functions) g)) n (getD T (firstOf (S .functions) g + i) 0)
 
-  pub visit-kept : (heldHere ≡ 0 → ⊥) → (visitAt S n g start T i ≡ T) × (oneUnless (storedAt S n g start T i) ≡ 0)
+  pub visit-kept : (decidedHere ≡ 0 → ⊥) → (visitAt S n g start T i ≡ T) × (oneUnless (storedAt S n g start T i) ≡ 0)
   unfolding visitAt storedAt
   visit-kept h = (simp (ne-eqb _ _ h), simp (ne-eqb _ _ h))
 
-  pub visit-open : heldHere ≡ 0 → (visitAt S n g start T i ≡ filled S n g start T i) × (storedAt S n g start T i ≡ filledAt S n g start T i)
+  pub visit-open : decidedHere ≡ 0 → (visitAt S n g start T i ≡ filled S n g start T i) × (storedAt S n g start T i ≡ filledAt S n g start T i)
   unfolding visitAt storedAt filled
   visit-open h = (simp (eq-eqb _ _ h), simp (eq-eqb _ _ h))
 
   length-put : (c : ℕ) → length (putAt S g T i c) ≡ length T
   length-put c = go (eqb c 0)
     where
-      go : (b : Bool) → length (pick b T (set T (firstOf (S .functions) g + i) c)) ≡ length T
+      go : (b : Bool) → length (cond b T (set T (firstOf (S .functions) g + i) c)) ≡ length T
       go true = refl
       go false = length-set T (firstOf (S .functions) g + i) c
 
@@ -64,7 +68,7 @@ module _ (S : Setup) (n g start : ℕ) (T : List ℕ) (i : ℕ) where
 one-le : (c : ℕ) → oneUnless c ≤ 1
 one-le c = go (eqb c 0)
   where
-    go : (b : Bool) → pick b 0 1 ≤ 1
+    go : (b : Bool) → cond b 0 1 ≤ 1
     go true = omega arith
     go false = omega arith
 
@@ -111,12 +115,13 @@ module _ {S : Setup} {n g start : ℕ} {T₀ T : List ℕ} {stored i : ℕ} (u :
     count = s ∙ simp (u .count, u .cells) (sym (stores-more S n g start T₀ i));
   }
 
-  pub visited-kept : {h : ℕ} → h ≡ heldHere S n g start T i → (h ≡ 0 → ⊥) → Visited S n g start T₀ T stored (i + 1)
+  pub visited-kept : {h : ℕ} → h ≡ decidedHere S n g start T i → (h ≡ 0 → ⊥) → Visited S n g start T₀ T stored (i + 1)
   visited-kept e z =
       let k = visit-kept S n g start T i (λ q. z (e ∙ q)) in
       next (sym (k .0)) (omega (arith, k .1))
 
-  pub visited-open : {h one : ℕ} {T′ : List ℕ} → h ≡ heldHere S n g start T i → h ≡ 0 → T′ ≡ filled S n g start T i → one ≡ oneUnless (filledAt S n g start T i)
+  pub visited-open : {h one : ℕ} {T′ : List ℕ} → h ≡ decidedHere S n g start T i → h ≡ 0 → T′ ≡ filled S n g start T i
+      → one ≡ oneUnless (filledAt S n g start T i)
       → Visited S n g start T₀ T′ (stored + one) (i + 1)
   visited-open e z f s =
       let k = visit-open S n g start T i (sym e ∙ z) in
@@ -127,12 +132,62 @@ module _ {S : Setup} {n g start : ℕ} {T₀ T : List ℕ} {stored i : ℕ} (u :
       let all : i ≡ size = omega (arith, h, k, e) in
       (rw all at (u .cells), rw all at (u .count))
 
+-- ---- Cells within the table
+
+both : (a b : Bool) → (a && b) ≡ true → (a ≡ true) × (b ≡ true)
+both true b e = (refl, e)
+both false b e = let z : _≡_ {A = ℕ} 0 1 = cc in absurd (omega arith)
+
+module _ {functions : List ℕ} {n g len : ℕ} where
+  pub ready-fits : Ready functions n g len → fits functions n g len ≡ true
+  unfolding fits
+  ready-fits u = simp (lt-ltb g mostFunctions (u .below), le-leb n mostSamples (u .samples), le-leb _ len (u .within))
+
+  pub fits-ready : fits functions n g len ≡ true → Ready functions n g len
+  unfolding fits
+  fits-ready e =
+      let first = both (ltb g mostFunctions) _ e in
+      let second = both (leb n mostSamples) _ (first .1) in
+      record { below = ltb-true _ _ (first .0); samples = leb-true _ _ (second .0); within = leb-true _ _ (second .1) }
+
+-- the last of its parts, as the code tests it
+within-left : (first size len : ℕ) → first ≤ len → leb size (len - first) ≡ leb (first + size) len
+within-left first size len h = go (leb size (len - first)) refl
+  where
+    go : (b : Bool) → leb size (len - first) ≡ b → b ≡ leb (first + size) len
+    go true e = let l = leb-true size (len - first) e in sym (le-leb (first + size) len (omega arith))
+    go false e = let l = leb-false size (len - first) e in sym (lt-leb (first + size) len (omega arith))
+
+module _ (functions : List ℕ) (n g len : ℕ) where
+  pub fits-beyond : mostFunctions ≤ g → false ≡ fits functions n g len
+  unfolding fits
+  fits-beyond h = simp (le-ltb g mostFunctions h)
+
+  module _ (below : g < mostFunctions) where
+    pub fits-long : mostSamples < n → false ≡ fits functions n g len
+    unfolding fits
+    fits-long h = simp (lt-ltb g mostFunctions below, lt-leb n mostSamples h)
+
+    module _ (samples : n ≤ mostSamples) where
+      pub fits-past : len < firstOf functions g → false ≡ fits functions n g len
+      unfolding fits
+      fits-past h =
+          let far = lt-leb (firstOf functions g + sizeOf functions n g) len (omega arith) in
+          simp (lt-ltb g mostFunctions below, le-leb n mostSamples samples, far)
+
+      pub fits-left : firstOf functions g ≤ len → {size : ℕ} → size ≡ sizeOf functions n g
+          → leb size (len - firstOf functions g) ≡ fits functions n g len
+      unfolding fits
+      fits-left h e =
+          simp (e, lt-ltb g mostFunctions below, le-leb n mostSamples samples)
+          (within-left (firstOf functions g) (sizeOf functions n g) len h)
+
 -- ---- All functions
 
 pub record Covering (S : Setup) (n : ℕ) (starts : List ℕ) (T₀ T : List ℕ) (stored g : ℕ) : Type 0 where
   pub cells : T ≡ passVisits S n starts g T₀
   pub count : stored ≡ passCounts S n starts g T₀
-  pub few : stored ≤ g * 281474976710656
+  pub few : stored ≤ g * mostConfigurations
   pub same : length T ≡ length T₀
 
 pub covering-start : (S : Setup) (n : ℕ) (starts T : List ℕ) → Covering S n starts T T 0 0
@@ -140,22 +195,43 @@ unfolding passVisits passCounts
 covering-start S n starts T = record { cells = refl; count = refl; few = omega arith; same = refl }
 
 module _ (S : Setup) (n : ℕ) (starts T : List ℕ) (g : ℕ) where
-  pass-more : passVisits S n starts (g + 1) T ≡ functionVisits S n g (getD starts g 0) (sizeOf (S .functions) n g) (passVisits S n starts g T)
+  pass-more : fits (S .functions) n g (length T) ≡ true
+      → passVisits S n starts (g + 1) T ≡ functionVisits S n g (getD starts g 0) (sizeOf (S .functions) n g) (passVisits S n starts g T)
   unfolding passVisits
-  pass-more = rw add-one
+  pass-more e = rw (add-one, e)
 
-  counts-more : passCounts S n starts (g + 1) T ≡ passCounts S n starts g T + functionStores S n g (getD starts g 0) (sizeOf (S .functions) n g) (passVisits S n starts g T)
+  counts-more : fits (S .functions) n g (length T) ≡ true
+      → passCounts S n starts (g + 1) T
+      ≡ passCounts S n starts g T + functionStores S n g (getD starts g 0) (sizeOf (S .functions) n g) (passVisits S n starts g T)
   unfolding passCounts
-  counts-more = rw add-one
+  counts-more e = rw (add-one, e)
+
+  pass-over : fits (S .functions) n g (length T) ≡ false → passVisits S n starts (g + 1) T ≡ passVisits S n starts g T
+  unfolding passVisits
+  pass-over e = rw (add-one, e)
+
+  counts-over : fits (S .functions) n g (length T) ≡ false → passCounts S n starts (g + 1) T ≡ passCounts S n starts g T
+  unfolding passCounts
+  counts-over e = rw (add-one, e) (omega arith)
 
 module _ {S : Setup} {n : ℕ} {starts T₀ T : List ℕ} {stored g : ℕ} (u : Covering S n starts T₀ T stored g) where
-  pub covering-more : {T′ : List ℕ} {more : ℕ} → T′ ≡ functionVisits S n g (getD starts g 0) (sizeOf (S .functions) n g) T
-      → (more ≡ functionStores S n g (getD starts g 0) (sizeOf (S .functions) n g) T) × (more ≤ 281474976710656) → Covering S n starts T₀ T′ (stored + more) (g + 1)
-  covering-more v s = record {
-    cells = v ∙ ap (functionVisits S n g (getD starts g 0) (sizeOf (S .functions) n g)) (u .cells) ∙ sym (pass-more S n starts T₀ g);
-    count = simp (s .0, u .count, u .cells) (sym (counts-more S n starts T₀ g));
+  pub covering-more : fits (S .functions) n g (length T₀) ≡ true → {T′ : List ℕ} {more : ℕ}
+      → T′ ≡ functionVisits S n g (getD starts g 0) (sizeOf (S .functions) n g) T
+      → (more ≡ functionStores S n g (getD starts g 0) (sizeOf (S .functions) n g) T) × (more ≤ mostConfigurations)
+      → Covering S n starts T₀ T′ (stored + more) (g + 1)
+  covering-more e v s = record {
+    cells = v ∙ ap (functionVisits S n g (getD starts g 0) (sizeOf (S .functions) n g)) (u .cells) ∙ sym (pass-more S n starts T₀ g e);
+    count = simp (s .0, u .count, u .cells) (sym (counts-more S n starts T₀ g e));
     few = omega (arith, u .few, s .1);
     same = ap length v ∙ length-function S n g (getD starts g 0) T (sizeOf (S .functions) n g) ∙ u .same;
+  }
+
+  pub covering-over : fits (S .functions) n g (length T₀) ≡ false → Covering S n starts T₀ T stored (g + 1)
+  covering-over e = record {
+    cells = u .cells ∙ sym (pass-over S n starts T₀ g e);
+    count = u .count ∙ sym (counts-over S n starts T₀ g e);
+    few = omega (arith, u .few);
+    same = u .same;
   }
 
   pub covering-end : {count : ℕ} → g ≤ count → count ≤ g → (T ≡ passVisits S n starts count T₀) × (stored ≡ passCounts S n starts count T₀)
@@ -166,57 +242,86 @@ module _ {S : Setup} {n : ℕ} {starts T₀ T : List ℕ} {stored g : ℕ} (u : 
 pub length-pass : (S : Setup) (n : ℕ) (starts T : List ℕ) (g : ℕ) → length (passVisits S n starts g T) ≡ length T
 unfolding passVisits
 length-pass S n starts T zero = refl
-length-pass S n starts T (suc g) = length-function S n g (getD starts g 0) (passVisits S n starts g T) (sizeOf (S .functions) n g) ∙ length-pass S n starts T g
+length-pass S n starts T (suc g) = go (fits (S .functions) n g (length T)) (length-pass S n starts T g)
+  where
+    before : List ℕ
+    before = passVisits S n starts g T
+
+    after : List ℕ
+    after = functionVisits S n g (getD starts g 0) (sizeOf (S .functions) n g) before
+
+    go : (b : Bool) → length before ≡ length T → length (cond b after before) ≡ length T
+    go true e = length-function S n g (getD starts g 0) before (sizeOf (S .functions) n g) ∙ e
+    go false e = e
 
 -- ---- Passes
 
--- `done` passes that all stored have led from T₀ to T; `fuel` are left
+-- `done` passes that all stored have led from T₀ to T
 pub record Running (S : Setup) (n : ℕ) (starts : List ℕ) (count most : ℕ) (T₀ T : List ℕ) (done : ℕ) : Type 0 where
-  pub below : done < most
-  pub ends : Ends S n starts count (most - done) T
+  pub few : done ≤ most
   pub cells : tableFrom S n starts count (most - done) T ≡ tableFrom S n starts count most T₀
-  pub passes : done + passesFrom S n starts count (most - done) T ≡ passesFrom S n starts count most T₀
+  pub passes : done + passesRun S n starts count (most - done) T ≡ passesRun S n starts count most T₀
   pub same : length T ≡ length T₀
 
-pub running-start : (S : Setup) (n : ℕ) (starts : List ℕ) (count most : ℕ) (T : List ℕ) → 0 < most → Ends S n starts count most T → Running S n starts count most T T 0
-running-start S n starts count most T h e =
+pub running-start : (S : Setup) (n : ℕ) (starts : List ℕ) (count most : ℕ) (T : List ℕ) → Running S n starts count most T T 0
+running-start S n starts count most T =
     let all : most - 0 ≡ most = omega arith in
-    record { below = h; ends = rw all e; cells = rw all; passes = rw all (omega arith); same = refl }
+    record { few = omega arith; cells = rw all; passes = rw all (omega arith); same = refl }
 
 module _ {S : Setup} {n : ℕ} {starts : List ℕ} {count most : ℕ} {T₀ T : List ℕ} {done : ℕ} (u : Running S n starts count most T₀ T done) where
-  fuel : most - done ≡ suc (most - (done + 1))
-  fuel = omega (arith, u .below)
-
   pub running-length : {T′ : List ℕ} → T′ ≡ passVisits S n starts count T → length T′ ≡ length T₀
   running-length v = ap length v ∙ length-pass S n starts T count ∙ u .same
 
-  pub running-stop : {T′ : List ℕ} {stored : ℕ} → T′ ≡ passVisits S n starts count T → stored ≡ passCounts S n starts count T → stored ≡ 0
-      → (T′ ≡ tableFrom S n starts count most T₀) × (done + 1 ≡ passesFrom S n starts count most T₀)
-  unfolding tableFrom passesFrom
-  running-stop v s z =
-      let none : eqb (passCounts S n starts count T) 0 ≡ true = eq-eqb _ _ (sym s ∙ z) in
-      (v ∙ (simp (fuel, none) at (u .cells)), simp (fuel, none) at (u .passes))
+  -- all passes have been made
+  pub running-end : most ≤ done → (T ≡ tableFrom S n starts count most T₀) × (done ≡ passesRun S n starts count most T₀)
+  unfolding tableFrom passesRun
+  running-end h =
+      let none : most - done ≡ 0 = omega arith in
+      (rw none at (u .cells), omega (arith, rw none at (u .passes)))
 
-  more-left : Ends S n starts count (suc (most - (done + 1))) T → (passCounts S n starts count T ≡ 0 → ⊥) → Ends S n starts count (most - (done + 1)) (passVisits S n starts count T)
-  unfolding Ends
-  more-left (inl e) k = absurd (k e)
-  more-left (inr e) k = e
+  module _ (left : done < most) where
+    fuel : most - done ≡ suc (most - (done + 1))
+    fuel = omega arith
 
-  some-left : (m : ℕ) (W : List ℕ) → Ends S n starts count m W → 0 < m
-  unfolding Ends
-  some-left zero W e = absurd e
-  some-left (suc m) W e = omega arith
+    pub running-stop : {T′ : List ℕ} {stored : ℕ} → T′ ≡ passVisits S n starts count T → stored ≡ passCounts S n starts count T → stored ≡ 0
+        → (T′ ≡ tableFrom S n starts count most T₀) × (done + 1 ≡ passesRun S n starts count most T₀)
+    unfolding tableFrom passesRun
+    running-stop v s z =
+        let none : eqb (passCounts S n starts count T) 0 ≡ true = eq-eqb _ _ (sym s ∙ z) in
+        (v ∙ (simp (fuel, none) at (u .cells)), simp (fuel, none) at (u .passes))
 
-  pub running-more : {T′ : List ℕ} {stored : ℕ} → T′ ≡ passVisits S n starts count T → stored ≡ passCounts S n starts count T → (stored ≡ 0 → ⊥)
-      → Running S n starts count most T₀ T′ (done + 1)
-  unfolding tableFrom passesFrom
-  running-more v s k =
-      let some : eqb (passCounts S n starts count T) 0 ≡ false = ne-eqb _ _ (λ z. k (s ∙ z)) in
-      let left = more-left (rw fuel at (u .ends)) (λ z. k (s ∙ z)) in
-      record {
-        below = omega (arith, some-left (most - (done + 1)) (passVisits S n starts count T) left);
-        ends = rw v left;
-        cells = rw v (simp (fuel, some) at (u .cells));
-        passes = rw v (omega (arith, simp (fuel, some) at (u .passes)));
-        same = running-length v;
-      }
+    pub running-more : {T′ : List ℕ} {stored : ℕ} → T′ ≡ passVisits S n starts count T → stored ≡ passCounts S n starts count T → (stored ≡ 0 → ⊥)
+        → Running S n starts count most T₀ T′ (done + 1)
+    unfolding tableFrom passesRun
+    running-more v s k =
+        let some : eqb (passCounts S n starts count T) 0 ≡ false = ne-eqb _ _ (λ z. k (s ∙ z)) in
+        record {
+          few = omega arith;
+          cells = rw v (simp (fuel, some) at (u .cells));
+          passes = rw v (omega (arith, simp (fuel, some) at (u .passes)));
+          same = running-length v;
+        }
+
+-- ---- Clearing
+
+drop-min : (needed : ℕ) (T : List ℕ) → drop (min needed (length T)) T ≡ drop needed T
+drop-min needed T = go (leb needed (length T)) refl
+  where
+    go : (b : Bool) → leb needed (length T) ≡ b → drop (min needed (length T)) T ≡ drop needed T
+    go true e = ap (λ (k : ℕ). drop k T) (min-eq-left (leb-true needed (length T) e))
+    go false e =
+        let h : length T ≤ needed = omega (arith, leb-false needed (length T) e) in
+        ap (λ (k : ℕ). drop k T) (min-eq-right h) ∙ drop-length T ∙ sym (drop-of-length-le T h)
+
+-- what the loop leaves
+pub cleared-whole : (needed : ℕ) (T : List ℕ) (i : ℕ) {last : ℕ} {T′ : List ℕ} → last ≡ min needed (length T) → i ≤ last → last ≤ i
+    → T′ ≡ replicate i 0 ++ drop i T → T′ ≡ cleared needed T
+unfolding cleared
+cleared-whole needed T i l h k e =
+    let all : i ≡ min needed (length T) = omega arith in
+    e ∙ rw (all, drop-min needed T)
+
+-- a table that has so many cells
+pub cleared-within : (needed : ℕ) (T : List ℕ) → needed ≤ length T → cleared needed T ≡ replicate needed 0 ++ drop needed T
+unfolding cleared
+cleared-within needed T h = rw (min-eq-left h)

@@ -12,7 +12,7 @@ use lib.ListN.{length, getD, drop, length-append, length-drop}
 use lib.Seq.{drop-cons, drop-drop, drop-append-seam}
 use borrow.Author.Tests.{lt-ltb, lt-leb}
 use Rattle.semantics.specs.Language.{Kind, Expr, Program, Trace, Meets}
-use Rattle.semantics.specs.Table.{Table}
+use Rattle.semantics.specs.Visits.{Table}
 use Rattle.rule.specs.declared.Node.{Node}
 use Rattle.rule.specs.Form.{mostParams, mostBytes, encodeExpr}
 use Rattle.rule.specs.Reading.{nodeOf}
@@ -45,14 +45,14 @@ module _ (P : Program) (t : Trace) (bytes : List ℕ) (S : Setup) (s : Sets P t 
   node-at T env d at b bs k h e =
       let l = byte-within bytes at b bs h in
       let here : getD (S .code) at 0 ≡ b = rw (s .code) (getD-padded mostBytes 0 bytes at ∙ byte-at bytes at b bs h) in
-      simp (lt-leb 4096 at (omega (arith, s .short)), here, e)
+      simp (lt-leb mostBytes at (omega (arith, s .short)), here, e)
 
   module _ (at : ℕ) (Γ : List Kind) (κ : Kind) (e : Expr) (rest : List ℕ) (narrow : length Γ ≤ mostParams) (m : Meets P Γ κ e) (h : drop at bytes ≡ encodeExpr e ++ rest) where
     pub end-at : endAt (S .ends) at ≡ at + length (encodeExpr e)
     unfolding endAt
     end-at =
         let l = place-within bytes at (encodeExpr e) rest (expr-bytes e) h in
-        rw (lt-ltb at 4096 (omega (arith, s .short))) (s .ends at Γ κ e rest narrow m h)
+        rw (lt-ltb at mostBytes (omega (arith, s .short))) (s .ends at Γ κ e rest narrow m h)
 
     pub expr-after : drop (endAt (S .ends) at) bytes ≡ rest
     expr-after = rw (end-at, ← drop-drop (length (encodeExpr e)) at bytes, h) (drop-append-seam (encodeExpr e) rest)

@@ -7,28 +7,28 @@ use mathlib.Core.Option.{some}
 use lib.ListN.{length, getElem?, getD, drop, replicate}
 use Rattle.trace.specs.{mostSamples, samples}
 use Rattle.semantics.specs.Language.{Function, Program}
-use Rattle.semantics.specs.Table.{cells}
+use Rattle.semantics.specs.Numbering.{cells, mostCells}
 use Rattle.rule.specs.Form.{mostFunctions, mostBytes, encodeExpr, padded, Accepted}
-use Rattle.rule.specs.Layout.{startsFrom, layoutOf}
+use Rattle.rule.specs.Outline.{startsFrom, outlineOf}
 use Rattle.rule.proofs.Padded.{getD-padded}
 use Rattle.rule.proofs.Places.{body-at}
-use Rattle.fixpoint.specs.Limits.{mostCells}
-use Rattle.fixpoint.specs.Mirror.{setup, endsDown, functionsUpto}
+use Rattle.fixpoint.specs.Mirror.{setup, mostTraceBytes, endsDown, functionsUpto}
 use Rattle.fixpoint.proofs.FunctionsMeaning.{size-means}
 use Rattle.fixpoint.proofs.ValuesMeaning.{env-means}
 use Rattle.fixpoint.proofs.SetupMeaning.{sets}
 use Rattle.fixpoint.proofs.PassMeaning.{Runs}
 
 module _ {bytes : List ℕ} {P : Program} (a : Accepted bytes P) where
-  starts-at : (g : ℕ) (f : Function) → getElem? P g ≡ some f → (rest : List ℕ) × (drop (getD (layoutOf P .starts) g 0) bytes ≡ encodeExpr (f .body) ++ rest)
-  unfolding layoutOf
+  starts-at : (g : ℕ) (f : Function) → getElem? P g ≡ some f → (rest : List ℕ) × (drop (getD (outlineOf P .starts) g 0) bytes ≡ encodeExpr (f .body) ++ rest)
+  unfolding outlineOf
   starts-at g f e =
       let b = body-at bytes P a g f e in
       (b .0, rw (getD-padded mostFunctions 0 (startsFrom 1 P) g) (b .1))
 
   pub runs : (trace : List ℕ) (n : ℕ) → n ≤ mostSamples → cells (samples trace n) P ≤ mostCells → Runs P (samples trace n) bytes
-      (setup (padded mostBytes 0 bytes) (endsDown (padded mostBytes 0 bytes) (layoutOf P .params) (length bytes) 0 (replicate 4096 0)) (functionsUpto (layoutOf P .kinds) (layoutOf P .params) n (length P)) (padded 512 0 trace))
-      (layoutOf P .starts)
+      (setup (padded mostBytes 0 bytes) (endsDown (padded mostBytes 0 bytes) (outlineOf P .params) (length bytes) 0 (replicate mostBytes 0))
+      (functionsUpto (outlineOf P .kinds) (outlineOf P .params) n (length P)) (padded mostTraceBytes 0 trace))
+      (outlineOf P .starts)
   runs trace n few fits =
       let s = sets a trace n few fits in
       let t = samples trace n in

@@ -6,13 +6,13 @@ use Prim.Native.Nat.{ℕ, _+_, _≤_, _<_}
 use mathlib.Core.Path.{_≡_}
 use mathlib.Core.List.{List, _++_}
 use mathlib.Core.Option.{some}
-use mathlib.Core.Bool.{false}
+use mathlib.Core.Bool.{false, cond}
 use lib.ListN.{length, getElem?, getD, take, drop}
 use Rattle.trace.specs.{mostSamples}
 use Rattle.semantics.specs.Language.{Kind, Expr, Function, Program, Trace, Value, given, Meets}
-use Rattle.semantics.specs.Table.{pick, cells, codeOf}
+use Rattle.semantics.specs.Numbering.{cells, mostCells}
+use Rattle.semantics.specs.Cells.{falseCode, trueCode, codeOf}
 use Rattle.rule.specs.Form.{mostFunctions, mostParams, mostBytes, encodeExpr, kindsByte, padded}
-use Rattle.fixpoint.specs.Limits.{mostCells}
 use Rattle.fixpoint.specs.Mirror.{Setup, sampleCode, firstOf, kindsOf, countOf}
 
 -- the first cell of function g: the cells of the functions before it
@@ -36,4 +36,4 @@ pub record Sets (P : Program) (t : Trace) (bytes : List ℕ) (S : Setup) : Type 
   pub first : (g : ℕ) (f : Function) → getElem? P g ≡ some f → firstOf (S .functions) g ≡ firstCell t P g
   pub kinds : (g : ℕ) (f : Function) → getElem? P g ≡ some f → kindsOf (S .functions) g ≡ kindsByte (f .params) (f .result)
   pub count : (g : ℕ) (f : Function) → getElem? P g ≡ some f → countOf (S .functions) g ≡ length (f .params)
-  pub trace : (i : ℕ) → i < length t → sampleCode (S .trace) i ≡ pick (getD t i false) 2 1
+  pub trace : (i : ℕ) → i < length t → sampleCode (S .trace) i ≡ cond (getD t i false) trueCode falseCode

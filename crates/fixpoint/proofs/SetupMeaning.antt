@@ -2,31 +2,33 @@
 --   trace-means       the array of the trace
 --   sets              all of them
 use mathlib.Core.Path.{_≡_, refl, sym, ap, _∙_}
-use mathlib.Core.Bool.{Bool, false}
+use mathlib.Core.Bool.{Bool, false, cond}
 use mathlib.Core.List.{List}
 use Prim.Native.Nat.{ℕ, _/_, _%_, _<_, _≤_}
 use lib.ListN.{length, getD, replicate}
 use Rattle.trace.specs.{mostSamples, bitOf, sampleAt, samples}
 use Rattle.trace.proofs.Packing.{length-samples, samples-at}
 use Rattle.semantics.specs.Language.{Program}
-use Rattle.semantics.specs.Table.{pick, cells}
+use Rattle.semantics.specs.Numbering.{cells, mostCells}
+use Rattle.semantics.specs.Cells.{falseCode, trueCode}
 use Rattle.rule.specs.Form.{mostBytes, padded, Accepted}
-use Rattle.rule.specs.Layout.{layoutOf}
+use Rattle.rule.specs.Outline.{outlineOf}
 use Rattle.rule.proofs.Padded.{getD-padded}
-use Rattle.fixpoint.specs.Limits.{mostCells}
-use Rattle.fixpoint.specs.Mirror.{setup, sampleCode, endsDown, functionsUpto}
+use Rattle.fixpoint.specs.Mirror.{setup, mostTraceBytes, sampleCode, endsDown, functionsUpto}
 use Rattle.fixpoint.proofs.Sets.{Sets}
 use Rattle.fixpoint.proofs.EndsMeaning.{ends-mean}
 use Rattle.fixpoint.proofs.FunctionsMeaning.{first-means, kinds-mean, count-means}
 
-pub trace-means : (bytes : List ℕ) (n i : ℕ) → i < n → sampleCode (padded 512 0 bytes) i ≡ pick (getD (samples bytes n) i false) 2 1
+pub trace-means : (bytes : List ℕ) (n i : ℕ) → i < n
+    → sampleCode (padded mostTraceBytes 0 bytes) i ≡ cond (getD (samples bytes n) i false) trueCode falseCode
 unfolding sampleAt
 trace-means bytes n i h =
-    ap (λ (b : Bool). pick b 2 1) (ap (bitOf (i % 8)) (getD-padded 512 0 bytes (i / 8)) ∙ sym (samples-at bytes n i h))
+    ap (λ (b : Bool). cond b trueCode falseCode) (ap (bitOf (i % 8)) (getD-padded mostTraceBytes 0 bytes (i / 8)) ∙ sym (samples-at bytes n i h))
 
 module _ {bytes : List ℕ} {P : Program} (a : Accepted bytes P) (trace : List ℕ) (n : ℕ) (few : n ≤ mostSamples) (fits : cells (samples trace n) P ≤ mostCells) where
   pub sets : Sets P (samples trace n) bytes
-      (setup (padded mostBytes 0 bytes) (endsDown (padded mostBytes 0 bytes) (layoutOf P .params) (length bytes) 0 (replicate 4096 0)) (functionsUpto (layoutOf P .kinds) (layoutOf P .params) n (length P)) (padded 512 0 trace))
+      (setup (padded mostBytes 0 bytes) (endsDown (padded mostBytes 0 bytes) (outlineOf P .params) (length bytes) 0 (replicate mostBytes 0))
+      (functionsUpto (outlineOf P .kinds) (outlineOf P .params) n (length P)) (padded mostTraceBytes 0 trace))
   sets =
       let t = samples trace n in
       let same : length t ≡ n = length-samples trace n in

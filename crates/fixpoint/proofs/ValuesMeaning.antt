@@ -14,7 +14,8 @@ use lib.ListN.{length, getElem?, getD, set, drop, length-set}
 use lib.Seq.{append-snoc, getD-set-other}
 use Rattle.trace.specs.{bitOf}
 use Rattle.semantics.specs.Language.{Kind, truth, list, Trace, Value, given}
-use Rattle.semantics.specs.Table.{kindSize, valueAt, size, valuesAt, codeOf}
+use Rattle.semantics.specs.Numbering.{kindSize, valueAt, size, valuesAt}
+use Rattle.semantics.specs.Cells.{codeOf}
 use Rattle.semantics.proofs.Numbering.{size-pos, kind-pos}
 use Rattle.rule.specs.Form.{mostParams, isList, kindsByte}
 use Rattle.rule.specs.Reading.{kindAt, kindsFrom}
@@ -23,21 +24,21 @@ use Rattle.rule.proofs.WalkMeaning.{kind-bit}
 use Rattle.rule.proofs.Scanning.{map-snoc}
 use Rattle.fixpoint.specs.Mirror.{valueCode, valuesInto}
 use Rattle.fixpoint.proofs.Sets.{EnvOf}
-use Rattle.fixpoint.proofs.FunctionsMeaning.{radix-means}
+use Rattle.fixpoint.proofs.FunctionsMeaning.{radix-by-bit}
 
 -- ---- One value
 
-abbrev numberOf : Value → ℕ
-numberOf v = codeOf (given v)
+abbrev valueNumber : Value → ℕ
+valueNumber v = codeOf (given v)
 
-value-of : (t : Trace) (κ : Kind) (d : ℕ) → d < kindSize t κ → valueCode (isList κ) d ≡ numberOf (valueAt κ d)
+value-of : (t : Trace) (κ : Kind) (d : ℕ) → d < kindSize t κ → valueCode (isList κ) d ≡ valueNumber (valueAt κ d)
 value-of t truth zero h = refl
 value-of t truth (suc zero) h = refl
 value-of t truth (suc (suc d)) h = absurd (omega arith)
 value-of t list d h = omega arith
 
 -- the last digit of a configuration, as the code takes it
-value-means : (t : Trace) (k i x : ℕ) → valueCode (bitOf i k) (x % kindSize t (kindAt k i)) ≡ numberOf (valueAt (kindAt k i) (x % kindSize t (kindAt k i)))
+value-means : (t : Trace) (k i x : ℕ) → valueCode (bitOf i k) (x % kindSize t (kindAt k i)) ≡ valueNumber (valueAt (kindAt k i) (x % kindSize t (kindAt k i)))
 value-means t k i x =
     let d = x % kindSize t (kindAt k i) in
     ap (λ (b : Bool). valueCode b d) (sym (kind-bit k i)) ∙ value-of t (kindAt k i) d (mod-lt x (kind-pos t (kindAt k i)))
@@ -98,12 +99,12 @@ module _ (t : Trace) (k : ℕ) where
         both = ap (λ (l : List Kind). valuesAt t l x) all ∙ values-snoc t κ κs x b;
       }
 
-  none : (x : ℕ) (env : List ℕ) → env ≡ map numberOf (valuesAt t (kindsFrom k 0 zero) x) ++ env
+  none : (x : ℕ) (env : List ℕ) → env ≡ map valueNumber (valuesAt t (kindsFrom k 0 zero) x) ++ env
   unfolding kindsFrom
   none x env = refl
 
   values-are : (c x : ℕ) (env : List ℕ) → c ≤ length env → x < size t (kindsFrom k 0 c)
-      → valuesInto k (length t) c x env ≡ map numberOf (valuesAt t (kindsFrom k 0 c) x) ++ drop c env
+      → valuesInto k (length t) c x env ≡ map valueNumber (valuesAt t (kindsFrom k 0 c) x) ++ drop c env
   unfolding valuesInto
   values-are zero x env h b = none x env
   values-are (suc c) x env h b =
@@ -111,12 +112,12 @@ module _ (t : Trace) (k : ℕ) where
       let K = kindSize t (kindAt k c) in
       let vs = valuesAt t (kindsFrom k 0 c) (x / K) in
       let v = valueAt (kindAt k c) (x % K) in
-      let env′ = set env c (numberOf v) in
-      rw (radix-means t k c, value-means t k c x)
-      (values-are c (x / K) env′ (omega (arith, length-set env c (numberOf v))) (u .first)
-      ∙ ap (λ (l : List ℕ). map numberOf vs ++ l) (drop-written env c (numberOf v) h)
-      ∙ sym (append-snoc (map numberOf vs) (numberOf v) (drop (suc c) env))
-      ∙ ap (λ (l : List ℕ). l ++ drop (suc c) env) (sym (map-snoc numberOf vs v) ∙ sym (ap (map numberOf) (u .both))))
+      let env′ = set env c (valueNumber v) in
+      rw (radix-by-bit t k c, value-means t k c x)
+      (values-are c (x / K) env′ (omega (arith, length-set env c (valueNumber v))) (u .first)
+      ∙ ap (λ (l : List ℕ). map valueNumber vs ++ l) (drop-written env c (valueNumber v) h)
+      ∙ sym (append-snoc (map valueNumber vs) (valueNumber v) (drop (suc c) env))
+      ∙ ap (λ (l : List ℕ). l ++ drop (suc c) env) (sym (map-snoc valueNumber vs v) ∙ sym (ap (map valueNumber) (u .both))))
 
   values-above : (c x : ℕ) (env : List ℕ) (j : ℕ) → c ≤ j → getD (valuesInto k (length t) c x env) j 0 ≡ getD env j 0
   unfolding valuesInto
@@ -124,9 +125,9 @@ module _ (t : Trace) (k : ℕ) where
   values-above (suc c) x env j h = values-above c _ _ j (omega arith) ∙ getD-set-other env c j _ 0 (λ e. omega arith)
 
 -- the number of a value that is there
-number-there : (vs : List Value) (rest : List ℕ) (j : ℕ) (v : Value) → getElem? vs j ≡ some v → getD (map numberOf vs ++ rest) j 0 ≡ numberOf v
+number-there : (vs : List Value) (rest : List ℕ) (j : ℕ) (v : Value) → getElem? vs j ≡ some v → getD (map valueNumber vs ++ rest) j 0 ≡ valueNumber v
 number-there [] rest j v e = let no : _≡_ {A = ℕ} 0 1 = cc in absurd (omega arith)
-number-there (x ∷ vs) rest zero v e = let same : x ≡ v = cc in ap numberOf same
+number-there (x ∷ vs) rest zero v e = let same : x ≡ v = cc in ap valueNumber same
 number-there (x ∷ vs) rest (suc j) v e = number-there vs rest j v e
 
 pub env-means : (t : Trace) (κs : List Kind) (result : Kind) → length κs ≤ mostParams → (i : ℕ) → i < size t κs

@@ -1,25 +1,43 @@
-// Outcomes as the numbers that stand for them in a cell: 0 undecided, 1 False, 2 True, 3 and 4 the
-// errors, 5 + k a suffix of length k. Inside the evaluator an outcome is its number.
+// Outcomes as the numbers that stand for them in a cell. Inside the evaluator an outcome is its number.
 use crate::setup;
 use crate::setup::WORDS;
 ghost use mathlib.Core.Path.{_≡_};
-ghost use Prim.Native.Nat.{_<_};
-ghost use Rattle.trace.specs.{bitOf};
-ghost use Rattle.fixpoint.specs.Mirror.{traceIn, headOf, tailOf, nullOf, heldCode, digitCode, radixOf, nextIndex, sampleCode, few};
+ghost use Prim.Native.Nat.{min};
+ghost use Rattle.fixpoint.specs.Mirror.{traceIn, headOf, tailOf, nullOf, decidedCode, digitCode, radixOf, nextIndex, sampleCode};
+ghost use Rattle.rule.specs.Walk.{atMostFour};
+
+// The numbers of outcomes; a suffix of length k is SUFFIX + k.
+pub const UNDECIDED: u16 = 0;
+
+pub const FALSE: u16 = 1;
+
+pub const TRUE: u16 = 2;
+
+pub const HEAD: u16 = 3;
+
+pub const TAIL: u16 = 4;
+
+pub const SUFFIX: u16 = 5;
+
+// Numbers of configurations and of first cells are below this one; it stands for all above.
+pub const BOUND: u64 = 4294967296;
+
+// Digits and radices are below this one.
+const DIGIT_BOUND: u64 = 65536;
 
 // hd of what its operand gave. `n` is the length of the trace.
 pub fn head(words: &[u16; WORDS], n: u16, operand: u16) -> u16
     ensures { λ r. ⌜ r ≡ headOf (traceIn (now (words .entry))) n operand ⌝ }
 {
-    if operand < 5 {
+    if operand < SUFFIX {
         return operand;
     }
-    let length = operand - 5;
+    let length = operand - SUFFIX;
     if length == 0 {
-        return 3;
+        return HEAD;
     }
     if n < length {
-        return 0;
+        return UNDECIDED;
     }
     sample(words, n - length)
 }
@@ -30,13 +48,13 @@ fn sample(words: &[u16; WORDS], i: u16) -> u16
 {
     let all = &words[..];
     let at = (i / 8) as usize;
-    if 512 <= at {
-        return 1;
+    if setup::TRACE_BYTES <= at {
+        return FALSE;
     }
     if (all[setup::TRACE + at] >> (i % 8)) % 2 == 1 {
-        2
+        TRUE
     } else {
-        1
+        FALSE
     }
 }
 
@@ -44,40 +62,40 @@ fn sample(words: &[u16; WORDS], i: u16) -> u16
 pub fn tail(operand: u16) -> u16
     ensures { λ r. ⌜ r ≡ tailOf operand ⌝ }
 {
-    if operand < 5 {
+    if operand < SUFFIX {
         return operand;
     }
-    if operand == 5 { 4 } else { operand - 1 }
+    if operand == SUFFIX { TAIL } else { operand - 1 }
 }
 
 // null of what its operand gave.
 pub fn null(operand: u16) -> u16
     ensures { λ r. ⌜ r ≡ nullOf operand ⌝ }
 {
-    if operand < 5 {
+    if operand < SUFFIX {
         return operand;
     }
-    if operand == 5 { 2 } else { 1 }
+    if operand == SUFFIX { TRUE } else { FALSE }
 }
 
 // What a cell of a function holds: a number that is no outcome of the result kind counts as undecided.
-pub fn held(list: bool, n: u16, cell: u16) -> u16
-    ensures { λ r. ⌜ r ≡ heldCode list n cell ⌝ }
+pub fn decided(list: bool, n: u16, cell: u16) -> u16
+    ensures { λ r. ⌜ r ≡ decidedCode list n cell ⌝ }
 {
     if list {
-        if cell < 3 {
-            return 0;
+        if cell < HEAD {
+            return UNDECIDED;
         }
-        if cell < 5 {
+        if cell < SUFFIX {
             return cell;
         }
-        if n < cell - 5 {
-            return 0;
+        if n < cell - SUFFIX {
+            return UNDECIDED;
         }
         return cell;
     }
-    if 4 < cell {
-        return 0;
+    if TAIL < cell {
+        return UNDECIDED;
     }
     cell
 }
@@ -86,10 +104,10 @@ pub fn held(list: bool, n: u16, cell: u16) -> u16
 pub fn digit(code: u16) -> u64
     ensures { λ r. ⌜ r ≡ digitCode code ⌝ }
 {
-    if code < 5 {
-        if code == 2 { 1 } else { 0 }
+    if code < SUFFIX {
+        if code == TRUE { 1 } else { 0 }
     } else {
-        (code - 5) as u64
+        (code - SUFFIX) as u64
     }
 }
 
@@ -100,31 +118,30 @@ pub fn radix(list: bool, n: u16) -> u64
     if list { (n as u64) + 1 } else { 2 }
 }
 
-// One digit more of a configuration's number; the numbers of a table that is lent stay far below 2 ^ 32.
+// One digit more of a configuration's number; the numbers of a table that is lent stay far below BOUND.
 pub fn next_index(index: u64, radix: u64, digit: u64) -> u64
     ensures { λ r. ⌜ r ≡ nextIndex index radix digit ⌝ }
 {
-    if index < 4294967296 {
-        if radix < 65536 {
-            if digit < 65536 {
+    if index < BOUND {
+        if radix < DIGIT_BOUND {
+            if digit < DIGIT_BOUND {
                 return index * radix + digit;
             }
         }
     }
-    4294967296
-}
-
-// Bit i of a kinds byte.
-pub fn bit(kinds: u64, i: u64) -> bool
-    requires { ⌜ i < 64 ⌝ }
-    ensures { λ r. ⌜ r ≡ bitOf i kinds ⌝ }
-{
-    (kinds >> i) % 2 == 1
+    BOUND
 }
 
 // A count of parameters, at most four.
 pub fn at_most_four(count: u64) -> u64
-    ensures { λ r. ⌜ r ≡ few count ⌝ }
+    ensures { λ r. ⌜ r ≡ atMostFour count ⌝ }
 {
     if count < 5 { count } else { 4 }
+}
+
+// The smaller of two numbers.
+pub fn smaller(a: usize, b: usize) -> usize
+    ensures { λ r. ⌜ r ≡ min a b ⌝ }
+{
+    if a < b { a } else { b }
 }

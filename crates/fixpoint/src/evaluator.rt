@@ -1,15 +1,16 @@
 // The outcome of an expression with calls looked up in the table. Program, expression ends and trace
 // stand in one lent array, functions and parameter values in others; an outcome is its number.
 use crate::codes;
-use crate::setup;
 use crate::setup::ENDS;
 use crate::setup::WORDS;
+use crate::words;
 use rule::Node;
 ghost use mathlib.Core.Path.{_≡_};
 ghost use Prim.Native.Nat.{_<_};
+ghost use Rattle.rule.specs.Form.{mostBytes};
 ghost use Rattle.fixpoint.specs.Mirror.{setupIn, evalAt, branchAt, callAt, paramAt, lookupAt};
 
-// The number of the outcome of the expression at a place, 0 where it is undecided. `env` has the numbers
+// The number of the outcome of the expression at a place. `env` has the numbers
 // of the parameter values, and at 4 the length of the trace.
 pub fn outcome(
     words: &[u16; WORDS],
@@ -36,10 +37,10 @@ fn eval(
     ensures { λ r. ⌜ r ≡ evalAt (setupIn (now (words .entry)) (now (functions .entry))) (now (now (table .entry))) (now (env .entry)) depth at ⌝ }
 {
     if depth == 0 {
-        return 0;
+        return codes::UNDECIDED;
     }
     if ENDS <= at {
-        return 0;
+        return codes::UNDECIDED;
     }
     node(words, functions, table, env, depth, at)
 }
@@ -53,15 +54,15 @@ fn node(
     depth: u8,
     at: usize,
 ) -> u16
-    requires { ⌜ (depth ≡ 0 → ⊥) × (at < 4096) ⌝ }
+    requires { ⌜ (depth ≡ 0 → ⊥) × (at < mostBytes) ⌝ }
     ensures { λ r. ⌜ r ≡ evalAt (setupIn (now (words .entry)) (now (functions .entry))) (now (now (table .entry))) (now (env .entry)) depth at ⌝ }
 {
     let left = depth - 1;
     let next = at + 1;
-    match rule::node_of(setup::byte_at(words, at)) {
-        Node::False => 1,
-        Node::True => 2,
-        Node::Empty => 5,
+    match rule::node_of(words::byte_at(words, at)) {
+        Node::False => codes::FALSE,
+        Node::True => codes::TRUE,
+        Node::Empty => codes::SUFFIX,
         Node::Param(i) => param(env, i),
         Node::Head => codes::head(
             words,
@@ -71,9 +72,9 @@ fn node(
         Node::Tail => codes::tail(operand(words, functions, table, env, left, next)),
         Node::Null => codes::null(operand(words, functions, table, env, left, next)),
         Node::If => branch(words, functions, table, env, left, next),
-        Node::Cons => 0,
+        Node::Cons => codes::UNDECIDED,
         Node::Call(g) => call(words, functions, table, env, left, next, g),
-        Node::Unknown => 0,
+        Node::Unknown => codes::UNDECIDED,
     }
 }
 
@@ -89,18 +90,18 @@ fn operand(
     ensures { λ r. ⌜ r ≡ evalAt (setupIn (now (words .entry)) (now (functions .entry))) (now (now (table .entry))) (now (env .entry)) depth at ⌝ }
 {
     if depth == 0 {
-        return 0;
+        return codes::UNDECIDED;
     }
     if ENDS <= at {
-        return 0;
+        return codes::UNDECIDED;
     }
-    let code = setup::byte_at(words, at);
+    let code = words::byte_at(words, at);
     if code < 20 {
         if 16 <= code {
             return param(env, code - 16);
         }
         if code < 2 {
-            return (code as u16) + 1;
+            return (code as u16) + codes::FALSE;
         }
     }
     node(words, functions, table, env, depth, at)
@@ -118,12 +119,12 @@ fn simple(
     ensures { λ r. ⌜ r ≡ evalAt (setupIn (now (words .entry)) (now (functions .entry))) (now (now (table .entry))) (now (env .entry)) depth at ⌝ }
 {
     if depth == 0 {
-        return 0;
+        return codes::UNDECIDED;
     }
     if ENDS <= at {
-        return 0;
+        return codes::UNDECIDED;
     }
-    let code = setup::byte_at(words, at);
+    let code = words::byte_at(words, at);
     let left = depth - 1;
     let next = at + 1;
     if code == 32 {
@@ -154,12 +155,12 @@ fn condition(
     ensures { λ r. ⌜ r ≡ evalAt (setupIn (now (words .entry)) (now (functions .entry))) (now (now (table .entry))) (now (env .entry)) depth at ⌝ }
 {
     if depth == 0 {
-        return 0;
+        return codes::UNDECIDED;
     }
     if ENDS <= at {
-        return 0;
+        return codes::UNDECIDED;
     }
-    if 34 < setup::byte_at(words, at) {
+    if 34 < words::byte_at(words, at) {
         return node(words, functions, table, env, depth, at);
     }
     simple(words, functions, table, env, depth, at)
@@ -177,18 +178,18 @@ fn branch(
     ensures { λ r. ⌜ r ≡ branchAt (setupIn (now (words .entry)) (now (functions .entry))) (now (now (table .entry))) (now (env .entry)) depth at ⌝ }
 {
     let chosen = condition(words, functions, table, env, depth, at);
-    let first = setup::end_at(words, at) as usize;
-    if chosen == 2 {
+    let first = words::end_at(words, at) as usize;
+    if chosen == codes::TRUE {
         return eval(words, functions, table, env, depth, first);
     }
-    if chosen == 1 {
+    if chosen == codes::FALSE {
         return eval(
             words,
             functions,
             table,
             env,
             depth,
-            setup::end_at(words, first) as usize,
+            words::end_at(words, first) as usize,
         );
     }
     chosen
@@ -207,7 +208,7 @@ fn call(
     ensures { λ r. ⌜ r ≡ callAt (setupIn (now (words .entry)) (now (functions .entry))) (now (now (table .entry))) (now (env .entry)) depth at callee ⌝ }
 {
     if 32 <= callee {
-        return 0;
+        return codes::UNDECIDED;
     }
     let g = callee as usize;
     let kinds = functions[32 + g];
@@ -218,21 +219,21 @@ fn call(
     let mut i: u64 = 0;
     while i < count {
         let value = simple(words, functions, table, env, depth, place);
-        if value == 0 {
-            return 0;
+        if value == codes::UNDECIDED {
+            return codes::UNDECIDED;
         }
-        if value == 3 {
-            return 3;
+        if value == codes::HEAD {
+            return codes::HEAD;
         }
-        if value == 4 {
-            return 4;
+        if value == codes::TAIL {
+            return codes::TAIL;
         }
         index = codes::next_index(
             index,
-            codes::radix(codes::bit(kinds, i), n),
+            codes::radix(trace::bit(kinds, i), n),
             codes::digit(value),
         );
-        place = setup::end_at(words, place) as usize;
+        place = words::end_at(words, place) as usize;
         i += 1;
     }
     lookup(functions, table, n, g, index)
@@ -242,7 +243,11 @@ fn call(
 fn param(env: &[u16; 5], i: u8) -> u16
     ensures { λ r. ⌜ r ≡ paramAt (now (env .entry)) i ⌝ }
 {
-    if i < 4 { env[i as usize] } else { 0 }
+    if i < 4 {
+        env[i as usize]
+    } else {
+        codes::UNDECIDED
+    }
 }
 
 // What the table holds for a configuration of a function.
@@ -251,17 +256,17 @@ fn lookup(functions: &[u64; 96], table: &&[u16], n: u16, g: usize, index: u64) -
     ensures { λ r. ⌜ r ≡ lookupAt (now (functions .entry)) (now (now (table .entry))) n g index ⌝ }
 {
     let first = functions[g];
-    if 4294967296 <= first {
-        return 0;
+    if codes::BOUND <= first {
+        return codes::UNDECIDED;
     }
-    if 4294967296 <= index {
-        return 0;
+    if codes::BOUND <= index {
+        return codes::UNDECIDED;
     }
     let cell = (first + index) as usize;
-    let list = codes::bit(functions[32 + g], 4);
+    let list = trace::bit(functions[32 + g], 4);
     let cells = *table;
     if cells.len() <= cell {
-        return codes::held(list, n, 0);
+        return codes::decided(list, n, codes::UNDECIDED);
     }
-    codes::held(list, n, cells[cell])
+    codes::decided(list, n, cells[cell])
 }

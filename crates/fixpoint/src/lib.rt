@@ -1,6 +1,8 @@
-// The least table that the passes of a program reach: its arrays, the outcome of an expression, the passes.
-// What they need is asked for (`requires`); crate evaluate meets it after its checks.
-pub mod codes;
-pub mod evaluator;
+// The least table that the passes of a program reach: its arrays, and the passes over them. Every function
+// answers for all arguments; what it makes of those that no accepted program gives is said at it.
+mod codes;
+mod configurations;
+mod evaluator;
 pub mod passes;
 pub mod setup;
+mod words;

@@ -1,13 +1,16 @@
 // Passes over the table.
 use crate::codes;
+use crate::configurations;
 use crate::evaluator;
-use crate::setup;
 use crate::setup::WORDS;
 ghost use mathlib.Core.Path.{_≡_};
-ghost use mathlib.Core.List.{_++_};
-ghost use Prim.Native.Nat.{_+_, _<_, _≤_};
-ghost use lib.ListN.{length, drop, replicate};
-ghost use Rattle.fixpoint.specs.Mirror.{setupIn, oneUnless, filledAt, filled, functionVisits, functionStores, sizeOf, passVisits, passCounts, tableFrom, passesFrom, mostPasses, Ready, Covered, Ends};
+ghost use Prim.Native.Nat.{_<_, _≤_};
+ghost use lib.ListN.{length};
+ghost use Rattle.fixpoint.specs.Mirror.{setupIn, oneUnless, filledAt, filled, functionVisits, functionStores, sizeOf, Ready, fits};
+ghost use Rattle.fixpoint.specs.Mirror.{passVisits, passCounts, mostConfigurations, mostPasses, tableFrom, passesRun, cleared};
+
+// The most passes that a run makes: one more than the most cells.
+const MOST_PASSES: u32 = semantics::MOST_CELLS as u32 + 1;
 
 // Passes until one stores nothing, and answers how many they were.
 pub fn run(
@@ -18,22 +21,22 @@ pub fn run(
     starts: &[u16; 32],
     count: u8,
 ) -> u32
-    requires { ⌜ Covered (now functions) n count (length (now table)) ⌝ }
-    requires { ⌜ Ends (setupIn (now words) (now functions)) n (now starts) count mostPasses (now table) ⌝ }
     ensures cells { λ _. ⌜ now (table .exit) ≡ tableFrom (setupIn (now (words .entry)) (now (functions .entry))) n (now (starts .entry)) count mostPasses (now (table .entry)) ⌝ }
-    ensures passes { λ r. ⌜ r ≡ passesFrom (setupIn (now (words .entry)) (now (functions .entry))) n (now (starts .entry)) count mostPasses (now (table .entry)) ⌝ }
+    ensures passes { λ r. ⌜ r ≡ passesRun (setupIn (now (words .entry)) (now (functions .entry))) n (now (starts .entry)) count mostPasses (now (table .entry)) ⌝ }
 {
     let mut done: u32 = 0;
-    loop {
+    while done < MOST_PASSES {
         let stored = pass(words, functions, table, n, starts, count);
         done += 1;
         if stored == 0 {
             return done;
         }
     }
+    done
 }
 
-// One pass over the cells of so many functions: how many outcomes it stored.
+// One pass over the cells of so many functions: how many outcomes it stored. A function whose cells do not
+// lie within the table is passed over, and so is each from the thirty-third on.
 pub fn pass(
     words: &[u16; WORDS],
     functions: &[u64; 96],
@@ -42,18 +45,39 @@ pub fn pass(
     starts: &[u16; 32],
     count: u8,
 ) -> usize
-    requires { ⌜ Covered (now functions) n count (length (now table)) ⌝ }
     ensures cells { λ _. ⌜ now (table .exit) ≡ passVisits (setupIn (now (words .entry)) (now (functions .entry))) n (now (starts .entry)) count (now (table .entry)) ⌝ }
     ensures stored { λ r. ⌜ r ≡ passCounts (setupIn (now (words .entry)) (now (functions .entry))) n (now (starts .entry)) count (now (table .entry)) ⌝ }
 {
+    let len = table.len();
     let last = count as usize;
     let mut stored: usize = 0;
     let mut g: usize = 0;
     while g < last {
-        stored += pass_function(words, functions, table, n, g, starts[g]);
+        if lies_within(functions, n, g, len) {
+            stored += pass_function(words, functions, table, n, g, starts[g]);
+        }
         g += 1;
     }
     stored
+}
+
+// Whether the cells of a function lie within a table of so many.
+fn lies_within(functions: &[u64; 96], n: u16, g: usize, len: usize) -> bool
+    ensures { λ r. ⌜ r ≡ fits (now (functions .entry)) n g len ⌝ }
+{
+    if (rule::MOST_FUNCTIONS as usize) <= g {
+        return false;
+    }
+    if trace::MOST_SAMPLES < n as usize {
+        return false;
+    }
+    let first = functions[g];
+    let cells = len as u64;
+    if cells < first {
+        return false;
+    }
+    let count = codes::at_most_four(functions[64 + g]);
+    configurations::size(functions[32 + g], count, n) <= cells - first
 }
 
 // Visits the configurations of a function in rising order: how many outcomes were stored. A decided cell
@@ -68,17 +92,17 @@ fn pass_function(
 ) -> usize
     requires { ⌜ Ready (now functions) n g (length (now table)) ⌝ }
     ensures cells { λ _. ⌜ now (table .exit) ≡ functionVisits (setupIn (now (words .entry)) (now (functions .entry))) n g start (sizeOf (now (functions .entry)) n g) (now (table .entry)) ⌝ }
-    ensures stored { λ r. ⌜ (r ≡ functionStores (setupIn (now (words .entry)) (now (functions .entry))) n g start (sizeOf (now (functions .entry)) n g) (now (table .entry))) × (r ≤ 281474976710656) ⌝ }
+    ensures stored { λ r. ⌜ (r ≡ functionStores (setupIn (now (words .entry)) (now (functions .entry))) n g start (sizeOf (now (functions .entry)) n g) (now (table .entry))) × (r ≤ mostConfigurations) ⌝ }
 {
     let kinds = functions[32 + g];
     let count = codes::at_most_four(functions[64 + g]);
-    let list = codes::bit(kinds, 4);
+    let list = trace::bit(kinds, 4);
     let first = functions[g] as usize;
-    let last = setup::size(kinds, count, n) as usize;
+    let last = configurations::size(kinds, count, n) as usize;
     let mut stored: usize = 0;
     let mut i: usize = 0;
     while i < last {
-        if codes::held(list, n, table[first + i]) == 0 {
+        if codes::decided(list, n, table[first + i]) == codes::UNDECIDED {
             stored += fill(words, functions, table, n, g, start, i);
         }
         i += 1;
@@ -104,7 +128,7 @@ fn fill(
     let count = codes::at_most_four(functions[64 + g]);
     let cell = (functions[g] as usize) + index;
     let mut env = [0, 0, 0, 0, n];
-    setup::values(kinds, count, n, index as u64, &mut env);
+    configurations::values(kinds, count, n, index as u64, &mut env);
     let outcome = evaluator::outcome(
         words,
         functions,
@@ -113,21 +137,21 @@ fn fill(
         rule::MOST_DEPTH,
         start as usize,
     );
-    if outcome == 0 {
+    if outcome == codes::UNDECIDED {
         return 0;
     }
     table[cell] = outcome;
     1
 }
 
-// Writes zeros into the first so many cells.
+// Makes the first so many cells undecided, as many of them as there are.
 pub fn clear(table: &mut [u16], needed: usize)
-    requires { ⌜ needed ≤ length (now table) ⌝ }
-    ensures { λ _. ⌜ now (table .exit) ≡ replicate needed 0 ++ drop needed (now (table .entry)) ⌝ }
+    ensures { λ _. ⌜ now (table .exit) ≡ cleared needed (now (table .entry)) ⌝ }
 {
+    let last = codes::smaller(needed, table.len());
     let mut i = 0;
-    while i < needed {
-        table[i] = 0;
+    while i < last {
+        table[i] = codes::UNDECIDED;
         i += 1;
     }
 }

@@ -10,22 +10,23 @@ use ring::Taken;
 ghost use mathlib.Core.Path.{_≡_};
 ghost use mathlib.Core.List.{[], _∷_};
 ghost use lib.ListN.{length};
-ghost use Rattle.refusal.specs.{checkNumber};
-ghost use Rattle.ring.specs.{ringCheck, slotsAfter, traceCheck, outputAfter};
+ghost use Rattle.refusal.specs.{checkNumber, valuesLeft};
+ghost use Rattle.ring.specs.{slotsAfter, adding, addedAnswer, taking, takenAnswer, outputAfter};
+ghost use Rattle.semantics.specs.Verdicts.{verdictValues};
 ghost use Rattle.rule.specs.Reading.{programCheck};
-ghost use Rattle.evaluate.specs.Evaluate.{evaluation, tableEvaluated, evaluatedNumber};
-ghost use Rattle.record.specs.Reading.{reading, readNumber};
-ghost use Rattle.record.specs.Recording.{writing, outputWritten, tableWritten, writtenNumber};
-ghost use Rattle.record.specs.Checking.{checking, tableChecked, checkedNumber};
-ghost use Rattle.gateway.specs.{ringIn, stateLeft, samplesLeft, answerLeft, writtenLeft, partsLeft, agreementLeft};
+ghost use Rattle.evaluate.specs.Evaluate.{evaluation, evaluatedAnswer, tableEvaluated, Demand3};
+ghost use Rattle.record.specs.Reading.{reading, readAnswer};
+ghost use Rattle.record.specs.Recording.{recordOf, writing, writtenAnswer, outputWritten, tableWritten, RecordDemand3};
+ghost use Rattle.record.specs.Checking.{checking, checkedAnswer, tableChecked, CheckDemand3};
+ghost use Rattle.gateway.specs.{ringIn, firstAlone, agreementValues};
 
 // Adds a sample to a ring: 0, with the new state in `state`; or the number of the refusal, with slots and
 // state as they were.
 #[no_mangle]
 pub extern "C" fn sik_ring_add(slots: &mut [u8], state: &mut [u64; 2], sample: u8) -> u32
-    ensures number { λ r. ⌜ r ≡ checkNumber (ringCheck (length (now (slots .entry))) (ringIn (now (state .entry)))) ⌝ }
+    ensures number { λ r. ⌜ r ≡ addedAnswer (adding (length (now (slots .entry))) (ringIn (now (state .entry)))) .number ⌝ }
     ensures slots { λ _. ⌜ now (slots .exit) ≡ slotsAfter (now (slots .entry)) (ringIn (now (state .entry))) sample ⌝ }
-    ensures state { λ _. ⌜ now (state .exit) ≡ stateLeft (length (now (slots .entry))) (now (state .entry)) ⌝ }
+    ensures state { λ _. ⌜ now (state .exit) ≡ valuesLeft (addedAnswer (adding (length (now (slots .entry))) (ringIn (now (state .entry))))) (now (state .entry)) ⌝ }
 {
     let ring = ring_of(state[0], state[1]);
     let added = ring::add(slots, ring, sample);
@@ -47,9 +48,9 @@ pub extern "C" fn sik_ring_trace(
     out: &mut [u8],
     samples: &mut [u64; 1],
 ) -> u32
-    ensures number { λ r. ⌜ r ≡ checkNumber (traceCheck (length (now (slots .entry))) (ringIn (now (state .entry))) (length (now (out .entry)))) ⌝ }
+    ensures number { λ r. ⌜ r ≡ takenAnswer (taking (length (now (slots .entry))) (ringIn (now (state .entry))) (length (now (out .entry)))) .number ⌝ }
     ensures output { λ _. ⌜ now (out .exit) ≡ outputAfter (now (slots .entry)) (ringIn (now (state .entry))) (now (out .entry)) ⌝ }
-    ensures samples { λ _. ⌜ now (samples .exit) ≡ samplesLeft (length (now (slots .entry))) (now (state .entry)) (length (now (out .entry))) (now (samples .entry)) ⌝ }
+    ensures samples { λ _. ⌜ now (samples .exit) ≡ valuesLeft (takenAnswer (taking (length (now (slots .entry))) (ringIn (now (state .entry))) (length (now (out .entry))))) (now (samples .entry)) ⌝ }
 {
     let ring = ring_of(state[0], state[1]);
     let taken = ring::take_trace(slots, ring, out);
@@ -92,9 +93,10 @@ pub extern "C" fn sik_evaluate(
     table: &mut [u16],
     answer: &mut [u64; 2],
 ) -> u32
-    ensures number { λ r. ⌜ r ≡ evaluatedNumber (evaluation (now (program .entry)) (now (trace .entry)) n (length (now (table .entry)))) ⌝ }
+    ensures number { λ r. ⌜ r ≡ evaluatedAnswer (evaluation (now (program .entry)) (now (trace .entry)) n (length (now (table .entry)))) .number ⌝ }
     ensures cells { λ _. ⌜ now (table .exit) ≡ tableEvaluated (now (program .entry)) (now (trace .entry)) n (now (table .entry)) ⌝ }
-    ensures answer { λ _. ⌜ now (answer .exit) ≡ answerLeft (evaluation (now (program .entry)) (now (trace .entry)) n (length (now (table .entry)))) (now (answer .entry)) ⌝ }
+    ensures answer { λ _. ⌜ now (answer .exit) ≡ valuesLeft (evaluatedAnswer (evaluation (now (program .entry)) (now (trace .entry)) n (length (now (table .entry))))) (now (answer .entry)) ⌝ }
+    ensures decides { λ r. ⌜ Demand3 (now (program .entry)) (now (trace .entry)) n (length (now (table .entry))) (λ v. (r ≡ 0) × (now (answer .exit) ≡ verdictValues v)) (now (table .exit)) ⌝ }
 {
     let evaluated = evaluate::evaluate(program, trace, n as usize, table);
     answer_with(evaluated, answer)
@@ -102,8 +104,8 @@ pub extern "C" fn sik_evaluate(
 
 // Writes a verdict's number and pass count, and answers 0; or answers the number of the refusal.
 fn answer_with(evaluated: Evaluated, answer: &mut [u64; 2]) -> u32
-    ensures number { λ r. ⌜ r ≡ evaluatedNumber evaluated ⌝ }
-    ensures answer { λ _. ⌜ now (answer .exit) ≡ answerLeft evaluated (now (answer .entry)) ⌝ }
+    ensures number { λ r. ⌜ r ≡ evaluatedAnswer evaluated .number ⌝ }
+    ensures answer { λ _. ⌜ now (answer .exit) ≡ valuesLeft (evaluatedAnswer evaluated) (now (answer .entry)) ⌝ }
 {
     match evaluated {
         Evaluated::Verdict(verdict) => {
@@ -120,8 +122,8 @@ fn answer_with(evaluated: Evaluated, answer: &mut [u64; 2]) -> u32
 // refusal, 1 to 17, with `parts` as they were.
 #[no_mangle]
 pub extern "C" fn sik_read_record(bytes: &[u8], parts: &mut [u64; 9]) -> u32
-    ensures number { λ r. ⌜ r ≡ readNumber (reading (now (bytes .entry))) ⌝ }
-    ensures parts { λ _. ⌜ now (parts .exit) ≡ partsLeft (reading (now (bytes .entry))) (now (parts .entry)) ⌝ }
+    ensures number { λ r. ⌜ r ≡ readAnswer (reading (now (bytes .entry))) .number ⌝ }
+    ensures parts { λ _. ⌜ now (parts .exit) ≡ valuesLeft (readAnswer (reading (now (bytes .entry)))) (now (parts .entry)) ⌝ }
 {
     let reading = record::read(bytes);
     parts_with(reading, parts)
@@ -129,8 +131,8 @@ pub extern "C" fn sik_read_record(bytes: &[u8], parts: &mut [u64; 9]) -> u32
 
 // Writes a record's parts, and answers 0; or answers the number of the refusal.
 fn parts_with(reading: Reading, parts: &mut [u64; 9]) -> u32
-    ensures number { λ r. ⌜ r ≡ readNumber reading ⌝ }
-    ensures parts { λ _. ⌜ now (parts .exit) ≡ partsLeft reading (now (parts .entry)) ⌝ }
+    ensures number { λ r. ⌜ r ≡ readAnswer reading .number ⌝ }
+    ensures parts { λ _. ⌜ now (parts .exit) ≡ valuesLeft (readAnswer reading) (now (parts .entry)) ⌝ }
 {
     match reading {
         Reading::Record(found) => {
@@ -167,10 +169,11 @@ pub extern "C" fn sik_write_record(
     out: &mut [u8],
     answer: &mut [u64; 3],
 ) -> u32
-    ensures number { λ r. ⌜ r ≡ writtenNumber (writing (now (program .entry)) (now (trace .entry)) n (now (label .entry)) (length (now (table .entry))) (length (now (out .entry)))) ⌝ }
+    ensures number { λ r. ⌜ r ≡ writtenAnswer (writing (now (program .entry)) (now (trace .entry)) n (now (label .entry)) (length (now (table .entry))) (length (now (out .entry)))) .number ⌝ }
     ensures output { λ _. ⌜ now (out .exit) ≡ outputWritten (now (program .entry)) (now (trace .entry)) n (now (label .entry)) (length (now (table .entry))) (now (out .entry)) ⌝ }
     ensures cells { λ _. ⌜ now (table .exit) ≡ tableWritten (now (program .entry)) (now (trace .entry)) n (now (label .entry)) (now (table .entry)) (length (now (out .entry))) ⌝ }
-    ensures answer { λ _. ⌜ now (answer .exit) ≡ writtenLeft (writing (now (program .entry)) (now (trace .entry)) n (now (label .entry)) (length (now (table .entry))) (length (now (out .entry)))) (now (answer .entry)) ⌝ }
+    ensures answer { λ _. ⌜ now (answer .exit) ≡ valuesLeft (writtenAnswer (writing (now (program .entry)) (now (trace .entry)) n (now (label .entry)) (length (now (table .entry))) (length (now (out .entry))))) (now (answer .entry)) ⌝ }
+    ensures decides { λ r. ⌜ RecordDemand3 (now (program .entry)) (now (trace .entry)) n (now (label .entry)) (length (now (table .entry))) (length (now (out .entry))) (λ v. (r ≡ 0) × (now (answer .exit) ≡ length (recordOf (now (program .entry)) (now (trace .entry)) n (now (label .entry))) ∷ verdictValues v)) (now (table .exit)) ⌝ }
 {
     let written = record::write(program, trace, n as usize, *label, table, out);
     written_with(written, answer)
@@ -178,8 +181,8 @@ pub extern "C" fn sik_write_record(
 
 // Writes a record's length, verdict and pass count, and answers 0; or answers the number of the refusal.
 fn written_with(written: Written, answer: &mut [u64; 3]) -> u32
-    ensures number { λ r. ⌜ r ≡ writtenNumber written ⌝ }
-    ensures answer { λ _. ⌜ now (answer .exit) ≡ writtenLeft written (now (answer .entry)) ⌝ }
+    ensures number { λ r. ⌜ r ≡ writtenAnswer written .number ⌝ }
+    ensures answer { λ _. ⌜ now (answer .exit) ≡ valuesLeft (writtenAnswer written) (now (answer .entry)) ⌝ }
 {
     match written {
         Written::Record(size, verdict) => {
@@ -196,9 +199,10 @@ fn written_with(written: Written, answer: &mut [u64; 3]) -> u32
 // in the table; or the number of the refusal, with both as they were.
 #[no_mangle]
 pub extern "C" fn sik_check_record(bytes: &[u8], table: &mut [u16], answer: &mut [u64; 1]) -> u32
-    ensures number { λ r. ⌜ r ≡ checkedNumber (checking (now (bytes .entry)) (length (now (table .entry)))) ⌝ }
+    ensures number { λ r. ⌜ r ≡ checkedAnswer (checking (now (bytes .entry)) (length (now (table .entry)))) .number ⌝ }
     ensures cells { λ _. ⌜ now (table .exit) ≡ tableChecked (now (bytes .entry)) (now (table .entry)) ⌝ }
-    ensures answer { λ _. ⌜ now (answer .exit) ≡ agreementLeft (checking (now (bytes .entry)) (length (now (table .entry)))) (now (answer .entry)) ⌝ }
+    ensures answer { λ _. ⌜ now (answer .exit) ≡ valuesLeft (firstAlone (checkedAnswer (checking (now (bytes .entry)) (length (now (table .entry)))))) (now (answer .entry)) ⌝ }
+    ensures decides { λ r. ⌜ CheckDemand3 (now (bytes .entry)) (length (now (table .entry))) (λ v. (r ≡ 0) × (now (answer .exit) ≡ agreementValues (now (bytes .entry)) v)) (now (table .exit)) ⌝ }
 {
     let checked = record::check(bytes, table);
     agreement_with(checked, answer)
@@ -206,8 +210,8 @@ pub extern "C" fn sik_check_record(bytes: &[u8], table: &mut [u16], answer: &mut
 
 // Writes whether a record agrees, and answers 0; or answers the number of the refusal.
 fn agreement_with(checked: Checked, answer: &mut [u64; 1]) -> u32
-    ensures number { λ r. ⌜ r ≡ checkedNumber checked ⌝ }
-    ensures answer { λ _. ⌜ now (answer .exit) ≡ agreementLeft checked (now (answer .entry)) ⌝ }
+    ensures number { λ r. ⌜ r ≡ checkedAnswer checked .number ⌝ }
+    ensures answer { λ _. ⌜ now (answer .exit) ≡ valuesLeft (firstAlone (checkedAnswer checked)) (now (answer .entry)) ⌝ }
 {
     match checked {
         Checked::Agrees(_) => {

@@ -5,12 +5,14 @@
 --   parts-are                                the trailer's check
 --   located-refused, program-refused,
 --   program-passed                           reading
+--   read-owed                                its answer, and that in numbers
 use mathlib.Core.Path.{_≡_, refl, sym, ap, _∙_}
 use mathlib.Core.List.{List}
 use Prim.Native.Nat.{ℕ}
 use Rattle.refusal.specs.declared.Refusal.{Refusal}
 use Rattle.refusal.specs.declared.Check.{Check}
 use Rattle.refusal.specs.declared.Check.the-variants.{Passed, Refused}
+use Rattle.refusal.specs.{answerIf}
 use Rattle.semantics.specs.declared.Verdict.{Verdict}
 use Rattle.rule.specs.Reading.{programCheck}
 use Rattle.evaluate.specs.declared.Evaluated.{Evaluated}
@@ -19,7 +21,7 @@ use Rattle.evaluate.specs.Evaluate.{evaluateCheck, answerBy, evaluation}
 use Rattle.record.specs.declared.Parts.{Parts}
 use Rattle.record.specs.declared.Reading.{Reading}
 use Rattle.record.specs.declared.Reading.the-variants as read
-use Rattle.record.specs.Reading.{partOf, trailerCheck, partsIn, readCheck, readBy, reading}
+use Rattle.record.specs.Reading.{partOf, trailerCheck, partsIn, readCheck, readBy, reading, readAnswer, partsValues}
 use Rattle.record.specs.Recording.{workedOut}
 use Rattle.record.specs.Steps.{located}
 
@@ -99,3 +101,13 @@ module _ (bytes : List ℕ) {r : Reading} (l : r ≡ located bytes) where
     pub program-passed : programCheck (partOf bytes (p .program)) ≡ Passed → read.Record p ≡ reading bytes
     unfolding reading readCheck
     program-passed c = rw (located-passed, parts-are, c)
+
+-- all that is promised of an answer: which it is, and its numbers
+pub read-owed : (bytes : List ℕ) {r : Reading} → r ≡ reading bytes
+    → (r ≡ reading bytes) × (readAnswer r ≡ answerIf (readCheck bytes) (partsValues (partsIn bytes)))
+unfolding reading
+read-owed bytes e = (e, ap readAnswer e ∙ go (readCheck bytes))
+  where
+    go : (k : Check) → readAnswer (readBy k (partsIn bytes)) ≡ answerIf k (partsValues (partsIn bytes))
+    go Passed = refl
+    go (Refused f) = refl

@@ -2,11 +2,13 @@
 --   check-is, table-is         checking refuses and leaves what evaluating does
 --   refused-both               a record whose trailer is refused
 --   verdict-told, refused-told     what an answer of evaluating comes to
+--   checking-decides               demand 3, of what checking answers and leaves
+--   checking-numbers               its answer in numbers
 --   trailer-refused, verdict-promised,
---   refused-promised               all that is promised, with demand 3 of the verdict worked out
+--   refused-promised               all that is promised
 use mathlib.Core.Path.{_≡_, refl, sym, ap, _∙_}
 use mathlib.Core.Bool.{Bool, true, false}
-use mathlib.Core.List.{List}
+use mathlib.Core.List.{List, _∷_}
 use Prim.Native.Nat.{ℕ}
 use native.Mathlib.Omega.{arith}
 use lib.ListN.{length}
@@ -14,18 +16,18 @@ use borrow.Author.Tests.{le-ltb, eq-eqb}
 use Rattle.refusal.specs.declared.Refusal.{Refusal}
 use Rattle.refusal.specs.declared.Check.{Check}
 use Rattle.refusal.specs.declared.Check.the-variants.{Passed, Refused}
-use Rattle.refusal.specs.{_then_}
-use Rattle.trace.specs.{mostSamples, bytesFor, samples}
+use Rattle.refusal.specs.{_then_, answerIf}
+use Rattle.trace.specs.{mostSamples, bytesFor, samples, digit}
 use Rattle.semantics.specs.declared.Verdict.{Verdict}
 use Rattle.semantics.specs.Language.{Program}
-use Rattle.semantics.specs.Table.{cells, verdictOf}
-use Rattle.semantics.specs.Demand.{Decides}
-use Rattle.rule.specs.Form.{Accepted}
-use Rattle.rule.specs.Reading.{Parsed, got, programFrom, programCheck, checkFrom}
+use Rattle.semantics.specs.Numbering.{cells}
+use Rattle.semantics.specs.Verdicts.{verdictOf, verdictValues}
+use Rattle.rule.specs.Reading.{Parsed, got, programFrom, programCheck, checkFrom, programIn}
 use Rattle.rule.specs.Reading as reading
 use Rattle.evaluate.specs.declared.Evaluated.{Evaluated}
 use Rattle.evaluate.specs.declared.Evaluated.the-variants as evaluated
-use Rattle.evaluate.specs.Evaluate.{traceCheck, tableCheck, checkRead, evaluateCheck, programIn, evaluation, tableEvaluated}
+use Rattle.evaluate.specs.Evaluate.{traceCheck, tableCheck, checkRead, evaluateCheck, evaluation, tableEvaluated}
+use Rattle.evaluate.proofs.Evaluating.{evaluation-decides}
 use Rattle.record.specs.declared.Parts.{Parts}
 use Rattle.record.specs.declared.Reading.{Reading}
 use Rattle.record.specs.declared.Reading.the-variants as read
@@ -35,7 +37,7 @@ use Rattle.record.specs.declared.Examined.{Examined}
 use Rattle.record.specs.Form.{Contents, samplesOf}
 use Rattle.record.specs.Reading.{partOf, contentsIn, trailerCheck, partsIn, readCheck, readBy}
 use Rattle.record.specs.Reading.{reading as readingOf}
-use Rattle.record.specs.Checking.{programOf, recordCheck, agrees, compared, checkedBy, checking, tableChecked, Holds, examining}
+use Rattle.record.specs.Checking.{recordCheck, agrees, compared, checkedBy, checking, tableChecked, examining, CheckDemand3, judgedBy, checkedAnswer, programHeld, checkNumbers}
 use Rattle.record.specs.Steps.{located, bothRefused, refusedBy}
 use Rattle.record.proofs.Answers.{evaluation-refused, evaluation-passed, located-refusal, located-passed, parts-are}
 use Rattle.refusal.proofs.Checks.{then-passed}
@@ -89,7 +91,7 @@ unfolding readingOf
 read-is bytes e = rw e
 
 checked-is : (bytes : List ℕ) (lent : ℕ) {k : Check} → recordCheck bytes lent ≡ k
-    → checkedBy k (contentsIn bytes) (verdictOf (programOf (contentsIn bytes)) (samplesOf (contentsIn bytes))) ≡ checking bytes lent
+    → checkedBy k (contentsIn bytes) (verdictOf (programHeld (contentsIn bytes)) (samplesOf (contentsIn bytes))) ≡ checking bytes lent
 unfolding checking
 checked-is bytes lent e = rw e
 
@@ -100,68 +102,85 @@ read-first bytes lent e = then-passed (readCheck bytes) _ e .0
 
 module _ (bytes T : List ℕ) (passed : trailerCheck bytes ≡ Passed) {r : Evaluated}
     (e : r ≡ evaluation (contentsIn bytes .program) (contentsIn bytes .trace) (contentsIn bytes .n) (length T)) where
-  abbrev held : Contents
-  held = contentsIn bytes
+  abbrev contents : Contents
+  contents = contentsIn bytes
 
   pub verdict-told : {w : Verdict} → r ≡ evaluated.Verdict w
-      → record { reading = read.Record (partsIn bytes); checked = compared (agrees (held .verdict) (held .passes) w) w } ≡ examining bytes (length T)
+      → record { reading = read.Record (partsIn bytes); checked = compared (agrees (contents .verdict) (contents .passes) w) w }
+      ≡ examining bytes (length T)
   verdict-told {w} q =
-      let t = evaluation-passed (held .program) (held .trace) (held .n) (length T) e q in
+      let t = evaluation-passed (contents .program) (contents .trace) (contents .n) (length T) e q in
       let all : recordCheck bytes (length T) ≡ Passed = check-is bytes passed (length T) ∙ t .0 in
       examined bytes (length T) (read-is bytes (read-first bytes (length T) all)) (rw (← t .1) (checked-is bytes (length T) all))
 
   -- the program's check decides whether a record that evaluating refuses is read
-  pub refused-told : {f : Refusal} → r ≡ evaluated.Refused f → refusedBy (programCheck (held .program)) (partsIn bytes) f ≡ examining bytes (length T)
+  pub refused-told : {f : Refusal} → r ≡ evaluated.Refused f
+      → refusedBy (programCheck (contents .program)) (partsIn bytes) f ≡ examining bytes (length T)
   unfolding readCheck recordCheck
-  refused-told {f} q = go (programCheck (held .program)) refl
+  refused-told {f} q = go (programCheck (contents .program)) refl
     where
       all : recordCheck bytes (length T) ≡ Refused f
-      all = check-is bytes passed (length T) ∙ evaluation-refused (held .program) (held .trace) (held .n) (length T) e q
+      all = check-is bytes passed (length T) ∙ evaluation-refused (contents .program) (contents .trace) (contents .n) (length T) e q
 
-      read-by : readCheck bytes ≡ programCheck (held .program)
+      read-by : readCheck bytes ≡ programCheck (contents .program)
       read-by = rw passed
 
-      all-by : {g : Refusal} → programCheck (held .program) ≡ Refused g → Refused f ≡ Refused g
+      all-by : {g : Refusal} → programCheck (contents .program) ≡ Refused g → Refused f ≡ Refused g
       all-by k = sym all ∙ rw (read-by ∙ k)
 
-      go : (k : Check) → programCheck (held .program) ≡ k → refusedBy k (partsIn bytes) f ≡ examining bytes (length T)
+      go : (k : Check) → programCheck (contents .program) ≡ k → refusedBy k (partsIn bytes) f ≡ examining bytes (length T)
       go Passed k = examined bytes (length T) (read-is bytes (read-by ∙ k)) (checked-is bytes (length T) all)
-      go (Refused g) k = examined bytes (length T) (ap (λ (x : Check). readBy x (partsIn bytes)) (all-by k) ∙ read-is bytes (read-by ∙ k)) (checked-is bytes (length T) all)
+      go (Refused g) k = examined bytes (length T) (ap (λ (x : Check). readBy x (partsIn bytes)) (all-by k) ∙ read-is bytes (read-by ∙ k))
+          (checked-is bytes (length T) all)
 
 -- ---- Demand 3
 
--- of the verdict that was compared
-compared-decides : (A : Verdict → Type 0) (b : Bool) (w : Verdict) → ((v : Verdict) → evaluated.Verdict w ≡ evaluated.Verdict v → A v)
-    → (v : Verdict) → Holds (compared b w) v → A v
-compared-decides A true w d v e = d v (ap evaluated.Verdict e)
-compared-decides A false w d v e = d v (ap evaluated.Verdict e)
+-- what checking tells of the verdict that evaluating the record's contents decides
+pub checking-decides : (bytes T T′ : List ℕ) {r : Checked} → r ≡ checking bytes (length T) → T′ ≡ tableChecked bytes T
+    → CheckDemand3 bytes (length T) (λ v. r ≡ judgedBy bytes v) T′
+checking-decides bytes T T′ told left P passed a room =
+    let c = contentsIn bytes in
+    let all = tableEvaluated (c .program) (c .trace) (c .n) T in
+    let d = evaluation-decides (c .program) (c .trace) (c .n) T all refl refl P a (trace-fits bytes passed) room in
+    let w = evaluation-passed (c .program) (c .trace) (c .n) (length T) refl (d .1) in
+    let checks : recordCheck bytes (length T) ≡ Passed = check-is bytes passed (length T) ∙ w .0 in
+    (d .0, told ∙ rw (← w .1) (sym (checked-is bytes (length T) checks)), rw (left ∙ sym (table-is bytes passed T refl)) (d .2))
 
--- a refusal holds no verdict
-refused-holds : (k : Check) (p : Parts) (f : Refusal) (v : Verdict) → Holds (refusedBy k p f .checked) v → ⊥
-refused-holds Passed p f v h = h
-refused-holds (Refused g) p f v h = h
+-- ---- Numbers
+
+pub checking-numbers : (bytes : List ℕ) (lent : ℕ) → checkedAnswer (checking bytes lent) ≡ checkNumbers bytes lent
+unfolding checking
+checking-numbers bytes lent = go (recordCheck bytes lent) (agrees (contentsIn bytes .verdict) (contentsIn bytes .passes) v) refl
+  where
+    v : Verdict
+    v = verdictOf (programHeld (contentsIn bytes)) (samplesOf (contentsIn bytes))
+
+    go : (k : Check) (b : Bool) → agrees (contentsIn bytes .verdict) (contentsIn bytes .passes) v ≡ b
+        → checkedAnswer (checkedBy k (contentsIn bytes) v) ≡ answerIf k (digit b ∷ verdictValues v)
+    go Passed true e = rw e
+    go Passed false e = rw e
+    go (Refused f) b e = refl
 
 -- ---- All that is promised of an answer
-
--- demand 3 of a verdict, of what the bytes hold and a table
-abbrev Decided : List ℕ → List ℕ → Verdict → Type 0
-Decided bytes T v = (P : Program) × Accepted (contentsIn bytes .program) P × Decides P (samplesOf (contentsIn bytes)) v T
 
 -- the answer, the table, and demand 3 of the verdict worked out
 abbrev Promised : List ℕ → List ℕ → List ℕ → Examined → Type 0
 Promised bytes T T′ r =
-    (r ≡ examining bytes (length T)) × ((T′ ≡ tableChecked bytes T) × ((v : Verdict) → Holds (r .checked) v → Decided bytes T′ v))
+    (r ≡ examining bytes (length T)) × ((T′ ≡ tableChecked bytes T) × CheckDemand3 bytes (length T) (λ v. r .checked ≡ judgedBy bytes v) T′)
+
+promised : (bytes T T′ : List ℕ) (r : Examined) → r ≡ examining bytes (length T) → T′ ≡ tableChecked bytes T → Promised bytes T T′ r
+unfolding examining
+promised bytes T T′ r told left = (told, (left, checking-decides bytes T T′ (ap (λ (x : Examined). x .checked) told) left))
 
 pub trailer-refused : (bytes T : List ℕ) {l : Reading} {f : Refusal} {r : Examined} → l ≡ located bytes → l ≡ read.Refused f → r ≡ bothRefused f
     → Promised bytes T T r
 trailer-refused bytes T {l} {f} {r} q e b =
     let w = refused-both bytes T (located-refusal bytes q e) in
-    (b ∙ w .0, (w .1, λ v h. absurd (rw b at h)))
+    promised bytes T T r (b ∙ w .0) (w .1)
 
 module _ (bytes T T′ : List ℕ) {l : Reading} (q : l ≡ located bytes) {p : Parts} (e : l ≡ read.Record p) {program trace : List ℕ}
     (pp : program ≡ partOf bytes (p .program)) (pt : trace ≡ partOf bytes (p .trace)) {a : Evaluated}
-    (told : a ≡ evaluation program trace (p .n) (length T)) (left : T′ ≡ tableEvaluated program trace (p .n) T)
-    (decides : (v : Verdict) → a ≡ evaluated.Verdict v → (P : Program) × Accepted program P × Decides P (samples trace (p .n)) v T′) where
+    (told : a ≡ evaluation program trace (p .n) (length T)) (left : T′ ≡ tableEvaluated program trace (p .n) T) where
   are : p ≡ partsIn bytes
   are = sym (parts-are bytes q e)
 
@@ -174,15 +193,12 @@ module _ (bytes T T′ : List ℕ) {l : Reading} (q : l ≡ located bytes) {p : 
   left-in : T′ ≡ tableChecked bytes T
   left-in = table-is bytes passed T (rw (pp, pt, are) at left)
 
-  decides-in : (v : Verdict) → a ≡ evaluated.Verdict v → Decided bytes T′ v
-  decides-in = rw (pp, pt, are) at decides
-
   pub verdict-promised : {w : Verdict} {k : Checked} → a ≡ evaluated.Verdict w → k ≡ compared (agrees (p .verdict) (p .passes) w) w
       → Promised bytes T T′ (record { reading = read.Record p; checked = k })
   verdict-promised {w} {k} h c =
-      (rw (c, are) (verdict-told bytes T passed told-in h), (left-in, rw c (compared-decides (Decided bytes T′) (agrees (p .verdict) (p .passes) w) w (rw h at decides-in))))
+      promised bytes T T′ (record { reading = read.Record p; checked = k }) (rw (c, are) (verdict-told bytes T passed told-in h)) left-in
 
   pub refused-promised : {f : Refusal} {r : Examined} {program′ : List ℕ} → a ≡ evaluated.Refused f → program′ ≡ partOf bytes (p .program)
       → r ≡ refusedBy (programCheck program′) p f → Promised bytes T T′ r
   refused-promised {f} {r} {program′} h pr c =
-      (c ∙ rw (pr, are) (refused-told bytes T passed told-in h), (left-in, λ v u. absurd (refused-holds (programCheck program′) p f v (rw c at u))))
+      promised bytes T T′ r (c ∙ rw (pr, are) (refused-told bytes T passed told-in h)) left-in

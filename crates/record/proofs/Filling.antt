@@ -48,7 +48,8 @@ into-begins trace n out = ap (λ (k : ℕ). pack (samples trace n) ++ drop k out
 
 pub pack-put : (at : ℕ) (trace : List ℕ) (n : ℕ) (out : List ℕ) {part : List ℕ} {size : ℕ} → at + bytesFor n ≤ length out → size ≡ bytesFor n
     → part ≡ packedInto (take (length out - at) (drop at out)) (samples trace n)
-    → (at + size ≡ placeAfter at (pack (samples trace n)) out) × (take at out ++ (part ++ drop (length out - at) (drop at out)) ≡ put at (pack (samples trace n)) out)
+    → (at + size ≡ placeAfter at (pack (samples trace n)) out)
+    × (take at out ++ (part ++ drop (length out - at) (drop at out)) ≡ put at (pack (samples trace n)) out)
 pack-put at trace n out h s e =
     let bits = pack (samples trace n) in
     let fits : length bits ≡ bytesFor n = packed-size trace n in
@@ -66,10 +67,12 @@ unfolding layout
 length-layout c = rw (length-append, length-append, length-append, length-append, length-low 4 (c .passes), length-trailer c)
 
 module _ (program trace : List ℕ) (n : ℕ) (label : List ℕ) (v : Verdict) {k : ℕ} (e : k ≡ bytesFor n) where
-  pub trailer-is : lowFirst 2 (length program + (k + afterTrace)) ++ (lowFirst 2 (k + afterTrace) ++ (lowFirst 2 n ++ (format ∷ mark ∷ []))) ≡ trailer (recorded program trace n label v)
+  pub trailer-is : lowFirst 2 (length program + (k + afterTrace))
+      ++ (lowFirst 2 (k + afterTrace) ++ (lowFirst 2 n ++ (format ∷ mark ∷ []))) ≡ trailer (recorded program trace n label v)
   unfolding recorded
   trailer-is = rw (packed-size trace n, e)
 
   pub size-is : length label ≡ labelBytes → length program + k + afterTrace + trailerBytes ≡ length (layout (recorded program trace n label v))
   unfolding recorded
-  size-is l = let bits : length (pack (samples trace n)) ≡ bytesFor n = packed-size trace n in omega (arith, length-layout (recorded program trace n label v))
+  size-is l = let bits : length (pack (samples trace n)) ≡ bytesFor n =
+      packed-size trace n in omega (arith, length-layout (recorded program trace n label v))

@@ -19,7 +19,7 @@ use Rattle.encoding.specs.{fromLow}
 use Rattle.record.specs.declared.Reading.the-variants as read
 use Rattle.record.specs.Form.{format, mark, trailerBytes}
 use Rattle.record.specs.Reading.{partOf, numberAt, trailerAt, programDistanceIn, traceDistanceIn, samplesIn, formatIn, markIn, verdictIn, passesIn, fieldsFault, trailerCheck, partsIn}
-use Rattle.record.specs.Steps.{located, Distances, storedAt}
+use Rattle.record.specs.Steps.{located, Distances, partsStored}
 use Rattle.record.proofs.Fields.{fields-sound}
 
 module _ (bytes : List ℕ) where
@@ -37,7 +37,8 @@ module _ (bytes : List ℕ) where
     wrong-format m f = rw (le-ltb (length bytes) trailerBytes long, eq-eqb (markIn bytes) mark m, ne-eqb (formatIn bytes) format f)
 
     module _ (m : markIn bytes ≡ mark) (f : formatIn bytes ≡ format) {first second n : ℕ} {fault : Bool}
-        (p : first ≡ numberAt 2 (trailerAt bytes) bytes) (q : second ≡ numberAt 2 (trailerAt bytes + 2) bytes) (r : n ≡ numberAt 2 (trailerAt bytes + 4) bytes)
+        (p : first ≡ numberAt 2 (trailerAt bytes) bytes) (q : second ≡ numberAt 2 (trailerAt bytes + 2) bytes)
+        (r : n ≡ numberAt 2 (trailerAt bytes + 4) bytes)
         (e : fault ≡ fieldsFault (trailerAt bytes) first second n) where
       told : fieldsFault (trailerAt bytes) (programDistanceIn bytes) (traceDistanceIn bytes) (samplesIn bytes) ≡ fault
       unfolding programDistanceIn traceDistanceIn samplesIn
@@ -47,8 +48,8 @@ module _ (bytes : List ℕ) where
       unfolding located trailerCheck
       faulty w = rw (le-ltb (length bytes) trailerBytes long, eq-eqb (markIn bytes) mark m, eq-eqb (formatIn bytes) format f, told ∙ w)
 
-      pub sound : fault ≡ false → storedAt bytes (trailerAt bytes) first second n ≡ located bytes
-      unfolding located trailerCheck storedAt partsIn verdictIn passesIn programDistanceIn traceDistanceIn samplesIn
+      pub sound : fault ≡ false → partsStored bytes (trailerAt bytes) first second n ≡ located bytes
+      unfolding located trailerCheck partsStored partsIn verdictIn passesIn programDistanceIn traceDistanceIn samplesIn
       sound w =
           rw (le-ltb (length bytes) trailerBytes long, eq-eqb (markIn bytes) mark m, eq-eqb (formatIn bytes) format f, told ∙ w, ← p, ← q, ← r)
 
@@ -71,4 +72,12 @@ unfolding numberAt partOf
 four-at bytes at h =
     let two : at + 2 ≡ suc (suc at) = omega arith in
     let three : at + 3 ≡ suc (suc (suc at)) = omega arith in
-    rw (drop-cons bytes at 0 (omega arith), drop-cons bytes (suc at) 0 (omega arith), drop-cons bytes (suc (suc at)) 0 (omega arith), drop-cons bytes (suc (suc (suc at))) 0 (omega arith), add-one at, two, three)
+    rw (
+      drop-cons bytes at 0 (omega arith),
+      drop-cons bytes (suc at) 0 (omega arith),
+      drop-cons bytes (suc (suc at)) 0 (omega arith),
+      drop-cons bytes (suc (suc (suc at))) 0 (omega arith),
+      add-one at,
+      two,
+      three,
+    )

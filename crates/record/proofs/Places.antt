@@ -31,7 +31,7 @@ use Rattle.record.proofs.Fields.{Fields, passed-fields}
 
 -- ---- Parts of bytes
 
-bytes-take : (n : ℕ) (bs : List ℕ) → AreBytes bs → AreBytes (take n bs)
+pub bytes-take : (n : ℕ) (bs : List ℕ) → AreBytes bs → AreBytes (take n bs)
 bytes-take zero bs are i = omega arith
 bytes-take (suc n) [] are i = omega arith
 bytes-take (suc n) (b ∷ bs) are zero = are 0
@@ -62,7 +62,8 @@ module _ (bytes : List ℕ) where
         let part = partOf bytes (span at width) in
         ap (λ (k : ℕ). lowFirst k (fromLow part)) (sym (length-part at width h)) ∙ low-from part (bytes-part at width)
 
-    pub split-number : (width at : ℕ) {next : ℕ} → at + width ≡ next → next ≤ length bytes → drop at bytes ≡ lowFirst width (numberAt width at bytes) ++ drop next bytes
+    pub split-number : (width at : ℕ) {next : ℕ} → at + width ≡ next → next ≤ length bytes
+        → drop at bytes ≡ lowFirst width (numberAt width at bytes) ++ drop next bytes
     split-number width at {next} e h = split at width e ∙ ap (λ (l : List ℕ). l ++ drop next bytes) (sym (number-low width at (omega arith)))
 
     pub number-below : (width at : ℕ) → at + width ≤ length bytes → numberAt width at bytes < 256 ^ width

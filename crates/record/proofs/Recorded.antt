@@ -17,27 +17,30 @@ use Rattle.trace.proofs.Packing.{length-samples, length-pack, samples-pack}
 use Rattle.semantics.specs.declared.Outcome.{Outcome}
 use Rattle.semantics.specs.declared.Verdict.{Verdict}
 use Rattle.semantics.specs.Language.{truth, Program}
-use Rattle.semantics.specs.Table.{cells, held, decisionOf, mainDecision, verdictNumber, verdictOf}
+use Rattle.semantics.specs.Numbering.{cells}
+use Rattle.semantics.specs.Cells.{outcomeIn}
+use Rattle.semantics.specs.Verdicts.{decisionOf, mainDecision, verdictNumber, verdictOf}
 use Rattle.semantics.proofs.Cells.{code-held, code-truth}
 use Rattle.semantics.proofs.Passes.{first-still, count-in-time}
 use Rattle.rule.specs.Form.{AreBytes, Accepted}
-use Rattle.rule.specs.Reading.{Parsed, got, checkFrom, programFrom, programCheck}
+use Rattle.rule.specs.Reading.{Parsed, got, checkFrom, programFrom, programCheck, programIn, programOf}
 use Rattle.rule.specs.Reading as reading
 use Rattle.rule.proofs.Programs.{passed-accepted, read-encoded}
-use Rattle.evaluate.specs.Evaluate.{traceCheck, tableCheck, checkRead, evaluateCheck, programIn}
+use Rattle.evaluate.specs.Evaluate.{traceCheck, tableCheck, checkRead, evaluateCheck}
 use Rattle.evaluate.proofs.Preparing.{trace-passed, table-passed}
 use Rattle.record.specs.declared.Checked.the-variants as checked
 use Rattle.record.specs.Form.{Contents, labelBytes, mostVerdict, samplesOf, layout, Stated}
 use Rattle.record.specs.Reading.{contentsIn, readCheck}
 use Rattle.record.specs.Recording.{workedOut, recorded, recordOf, writeCheck}
-use Rattle.record.specs.Checking.{programOf, recordCheck, checkedBy, checking}
+use Rattle.record.specs.Checking.{recordCheck, checkedBy, checking, programHeld}
 use Rattle.record.specs.Inverse.{ReadsBack}
 use Rattle.refusal.proofs.Checks.{then-passed}
 use Rattle.record.proofs.Inverse.{contents-in, layout-passed, read-back}
 
 -- ---- The samples
 
-pub recorded-samples : (program trace : List ℕ) (n : ℕ) (label : List ℕ) (v : Verdict) → samplesOf (recorded program trace n label v) ≡ samples trace n
+pub recorded-samples : (program trace : List ℕ) (n : ℕ) (label : List ℕ) (v : Verdict)
+    → samplesOf (recorded program trace n label v) ≡ samples trace n
 unfolding recorded
 recorded-samples program trace n label v =
     let bits = samples trace n in
@@ -48,9 +51,9 @@ recorded-samples program trace n label v =
 
 verdict-small : (cell : ℕ) → verdictNumber (mainDecision cell) ≤ mostVerdict
 unfolding mainDecision
-verdict-small cell = go (held [] truth cell) refl
+verdict-small cell = go (outcomeIn [] truth cell) refl
   where
-    go : (said : Option Outcome) → held [] truth cell ≡ said → verdictNumber (decisionOf said) ≤ mostVerdict
+    go : (said : Option Outcome) → outcomeIn [] truth cell ≡ said → verdictNumber (decisionOf said) ≤ mostVerdict
     go none e = omega arith
     go (some o) e = code-truth [] o (code-held [] truth cell o e .1) .1
 
@@ -74,7 +77,8 @@ unfolding evaluateCheck programCheck
 seen program trace n lent are e =
     let w = passed-accepted program are (seen-program (programFrom program) trace n lent e) in
     let P = w .0 in
-    let both : (traceCheck n (length trace) then tableCheck (cells (samples trace n) P) lent) ≡ check.Passed = rw (read-encoded program P (w .1)) at e in
+    let both : (traceCheck n (length trace) then tableCheck (cells (samples trace n) P) lent) ≡ check.Passed =
+    rw (read-encoded program P (w .1)) at e in
     let c = then-passed _ _ both in
     let t = trace-passed n (length trace) refl (c .0) in
     record {
@@ -95,7 +99,7 @@ module _ (program trace : List ℕ) (n : ℕ) (label : List ℕ) (lent room : �
   abbrev v : Verdict
   v = workedOut program trace n
 
-  program-is : programIn (programFrom program) ≡ evaluated .P
+  program-is : programOf program ≡ evaluated .P
   program-is = ap programIn (read-encoded program (evaluated .P) (evaluated .accepted))
 
   -- the pass count fits its field
@@ -120,7 +124,7 @@ module _ (program trace : List ℕ) (n : ℕ) (label : List ℕ) (lent room : �
       }
 
   -- the table's check, of what is recorded
-  table-fits : tableCheck (cells (samples trace n) (programIn (programFrom program))) lent ≡ check.Passed
+  table-fits : tableCheck (cells (samples trace n) (programOf program)) lent ≡ check.Passed
   table-fits = rw program-is (evaluated .table)
 
 -- ---- Reading and checking
@@ -132,15 +136,17 @@ written-reads-back before program trace n label lent room are size e =
 
 -- bytes that hold c, and whose verdict and pass count are the ones worked out
 agreed : (bytes : List ℕ) (lent : ℕ) (c : Contents) (v : Verdict) → readCheck bytes ≡ check.Passed → contentsIn bytes ≡ c
-    → tableCheck (cells (samplesOf c) (programOf c)) lent ≡ check.Passed → verdictOf (programOf c) (samplesOf c) ≡ v
+    → tableCheck (cells (samplesOf c) (programHeld c)) lent ≡ check.Passed → verdictOf (programHeld c) (samplesOf c) ≡ v
     → c .verdict ≡ verdictNumber (v .decision) → c .passes ≡ v .passes → checking bytes lent ≡ checked.Agrees v
 unfolding checking recordCheck
 agreed bytes lent c v r e t w d p =
-    ap (λ (x : Contents). checkedBy (readCheck bytes then tableCheck (cells (samplesOf x) (programOf x)) lent) x (verdictOf (programOf x) (samplesOf x))) e
+    ap (λ (x : Contents). checkedBy (readCheck bytes then tableCheck (cells (samplesOf x) (programHeld x)) lent) x
+    (verdictOf (programHeld x) (samplesOf x))) e
     ∙ rw (r, t, w, eq-eqb (c .verdict) (verdictNumber (v .decision)) d, eq-eqb (c .passes) (v .passes) p)
 
 pub written-agrees : (before program trace : List ℕ) (n : ℕ) (label : List ℕ) (lent room : ℕ) → AreBytes program → length label ≡ labelBytes
-    → writeCheck program trace n label lent room ≡ check.Passed → checking (before ++ recordOf program trace n label) lent ≡ checked.Agrees (workedOut program trace n)
+    → writeCheck program trace n label lent room ≡ check.Passed
+    → checking (before ++ recordOf program trace n label) lent ≡ checked.Agrees (workedOut program trace n)
 unfolding recordOf recorded
 written-agrees before program trace n label lent room are size e =
     let v = workedOut program trace n in

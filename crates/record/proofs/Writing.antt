@@ -1,12 +1,12 @@
 -- What recording answers and leaves, one law for each way through the code:
 --   evaluation-first, room-last,
 --   room-enough                     5 to 21 go before 22
---   refused-written, refused-table,
---   no-record                       a refusal
---   passed-written, verdict-in      a record
+--   refused-written, refused-table  a refusal
+--   passed-written                  a record
+--   written-owed                    all that is promised of either, with demand 3
 --   fillable                        what a passed check leaves for the record
-use mathlib.Core.Path.{_≡_, ap, _∙_}
-use mathlib.Core.List.{List}
+use mathlib.Core.Path.{_≡_, ap, _∙_, refl}
+use mathlib.Core.List.{List, _∷_}
 use Prim.Native.Nat.{ℕ, _<_, _≤_}
 use native.Mathlib.Omega.{arith}
 use lib.ListN.{length}
@@ -14,36 +14,27 @@ use borrow.Author.Tests.{lt-ltb, le-ltb}
 use Rattle.refusal.specs.declared.Refusal.{Refusal}
 use Rattle.refusal.specs.declared.Refusal.the-variants.{OutputShort}
 use Rattle.refusal.specs.declared.Check.the-variants.{Passed, Refused}
+use Rattle.refusal.specs.{answerIf}
+use Rattle.refusal.specs.declared.Check.{Check}
 use Rattle.semantics.specs.declared.Verdict.{Verdict}
+use Rattle.semantics.specs.Verdicts.{verdictValues}
 use Rattle.rule.specs.Form.{AreBytes}
 use Rattle.evaluate.specs.Evaluate.{evaluateCheck, tableEvaluated}
 use Rattle.encoding.specs.{begins}
+use Rattle.evaluate.proofs.Evaluating.{evaluation-decides}
 use Rattle.record.specs.declared.Written.{Written}
 use Rattle.record.specs.declared.Written.the-variants as written
 use Rattle.record.specs.Form.{labelBytes, layout}
-use Rattle.record.specs.Recording.{workedOut, recorded, recordOf, writeCheck, writing, outputWritten, tableWritten}
+use Rattle.record.specs.Recording.{workedOut, recorded, recordOf, writeCheck, writing, outputWritten, tableWritten, writtenAnswer, writtenBy, RecordDemand3}
 use Rattle.record.specs.Steps.{Fillable}
+use Rattle.record.proofs.Answers.{evaluation-passed}
 use Rattle.record.proofs.Recorded.{recorded-stated}
-
--- 1 where a record was written, else 0
-abbrev records : Written → ℕ
-records (written.Record size v) = 1
-records (written.Refused f) = 0
-
-pub no-record : {f : Refusal} {size : ℕ} {v : Verdict} → written.Refused f ≡ written.Record size v → ⊥
-no-record e = let clash : _≡_ {A = ℕ} 0 1 = ap records e in absurd (omega arith)
-
-abbrev verdictOr : Verdict → Written → Verdict
-verdictOr w (written.Record size v) = v
-verdictOr w (written.Refused f) = w
-
-pub verdict-in : {size size′ : ℕ} {v w : Verdict} → written.Record size v ≡ written.Record size′ w → v ≡ w
-verdict-in {v = v} e = ap (verdictOr v) e
 
 module _ (program trace : List ℕ) (n : ℕ) (label : List ℕ) (T out : List ℕ) where
   -- ---- The check
 
-  pub evaluation-first : {f : Refusal} → evaluateCheck program trace n (length T) ≡ Refused f → writeCheck program trace n label (length T) (length out) ≡ Refused f
+  pub evaluation-first : {f : Refusal} → evaluateCheck program trace n (length T) ≡ Refused f
+      → writeCheck program trace n label (length T) (length out) ≡ Refused f
   unfolding writeCheck
   evaluation-first e = rw e
 
@@ -59,23 +50,66 @@ module _ (program trace : List ℕ) (n : ℕ) (label : List ℕ) (T out : List �
   -- ---- Answers
 
   pub refused-written : {f : Refusal} → writeCheck program trace n label (length T) (length out) ≡ Refused f
-      → (written.Refused f ≡ writing program trace n label (length T) (length out)) × ((out ≡ outputWritten program trace n label (length T) out) × (T ≡ tableWritten program trace n label T (length out)))
+      → (written.Refused f ≡ writing program trace n label (length T) (length out))
+      × ((out ≡ outputWritten program trace n label (length T) out) × (T ≡ tableWritten program trace n label T (length out)))
   unfolding writing outputWritten tableWritten
   refused-written e = (rw e, (rw e, rw e))
 
-  pub refused-table : {f : Refusal} {T′ : List ℕ} → evaluateCheck program trace n (length T) ≡ Refused f → T′ ≡ tableEvaluated program trace n T → T′ ≡ T
+  pub refused-table : {f : Refusal} {T′ : List ℕ} → evaluateCheck program trace n (length T) ≡ Refused f
+      → T′ ≡ tableEvaluated program trace n T → T′ ≡ T
   unfolding tableEvaluated
   refused-table e t = t ∙ rw e
 
-  pub passed-written : {size : ℕ} {v : Verdict} {T′ out′ : List ℕ} → writeCheck program trace n label (length T) (length out) ≡ Passed → size ≡ length (recordOf program trace n label)
+  pub passed-written : {size : ℕ} {v : Verdict} {T′ out′ : List ℕ} → writeCheck program trace n label (length T) (length out) ≡ Passed
+      → size ≡ length (recordOf program trace n label)
       → workedOut program trace n ≡ v → out′ ≡ begins (layout (recorded program trace n label v)) out → T′ ≡ tableEvaluated program trace n T
-      → (written.Record size v ≡ writing program trace n label (length T) (length out)) × ((out′ ≡ outputWritten program trace n label (length T) out) × (T′ ≡ tableWritten program trace n label T (length out)))
+      → (written.Record size v ≡ writing program trace n label (length T) (length out))
+      × ((out′ ≡ outputWritten program trace n label (length T) out) × (T′ ≡ tableWritten program trace n label T (length out)))
   unfolding writing outputWritten tableWritten recordOf
   passed-written e s w o t = (rw (e, s, w), (rw (e, w) o, rw e t))
 
+  -- ---- All that is promised of an answer
+
+  writing-numbers : writtenAnswer (writing program trace n label (length T) (length out))
+      ≡ answerIf (writeCheck program trace n label (length T) (length out))
+      (length (recordOf program trace n label) ∷ verdictValues (workedOut program trace n))
+  unfolding writing
+  writing-numbers = go (writeCheck program trace n label (length T) (length out))
+    where
+      go : (k : Check) → writtenAnswer (writtenBy k (length (recordOf program trace n label)) (workedOut program trace n))
+          ≡ answerIf k (length (recordOf program trace n label) ∷ verdictValues (workedOut program trace n))
+      go Passed = refl
+      go (Refused f) = refl
+
+  -- demand 3, by that of evaluating
+  writing-decides : {r : Written} {T′ : List ℕ} → r ≡ writing program trace n label (length T) (length out)
+      → T′ ≡ tableWritten program trace n label T (length out)
+      → RecordDemand3 program trace n label (length T) (length out) (λ v. r ≡ written.Record (length (recordOf program trace n label)) v) T′
+  unfolding writeCheck writing tableWritten
+  writing-decides told left enough P a fits room =
+      let d = evaluation-decides program trace n T (tableEvaluated program trace n T) refl refl P a fits room in
+      let w = evaluation-passed program trace n (length T) refl (d .1) in
+      (d .0, rw (w .0, enough, w .1) at told, rw (rw (w .0, enough) at left) (d .2))
+
+  abbrev WriteOwed : Written → List ℕ → List ℕ → Type 0
+  WriteOwed r out′ T′ =
+      (r ≡ writing program trace n label (length T) (length out))
+      × ((writtenAnswer r ≡ answerIf (writeCheck program trace n label (length T) (length out))
+      (length (recordOf program trace n label) ∷ verdictValues (workedOut program trace n)))
+      × ((out′ ≡ outputWritten program trace n label (length T) out)
+      × ((T′ ≡ tableWritten program trace n label T (length out))
+      × RecordDemand3 program trace n label (length T) (length out) (λ v. r ≡ written.Record (length (recordOf program trace n label)) v) T′)))
+
+  pub written-owed : {r : Written} {out′ T′ : List ℕ}
+      → (r ≡ writing program trace n label (length T) (length out))
+      × ((out′ ≡ outputWritten program trace n label (length T) out) × (T′ ≡ tableWritten program trace n label T (length out)))
+      → WriteOwed r out′ T′
+  written-owed w = (w .0, (ap writtenAnswer (w .0) ∙ writing-numbers, (w .1 .0, (w .1 .1, writing-decides (w .0) (w .1 .1)))))
+
   -- ---- The record
 
-  pub fillable : {v : Verdict} → AreBytes program → length label ≡ labelBytes → writeCheck program trace n label (length T) (length out) ≡ Passed → workedOut program trace n ≡ v
+  pub fillable : {v : Verdict} → AreBytes program → length label ≡ labelBytes
+      → writeCheck program trace n label (length T) (length out) ≡ Passed → workedOut program trace n ≡ v
       → length (recordOf program trace n label) ≤ length out → Fillable program trace n label v out
   unfolding recorded recordOf
   fillable are l e w h =

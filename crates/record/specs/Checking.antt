@@ -2,32 +2,37 @@
 use Prim.Native.Nat.{ℕ}
 use mathlib.Core.Path.{_≡_}
 use mathlib.Core.Bool.{Bool, true, false, _&&_}
-use mathlib.Core.List.{List, _++_}
+use mathlib.Core.List.{List, _∷_}
 use lib.Dec.{eqb}
-use lib.ListN.{length, drop}
+use lib.ListN.{length}
 use Rattle.refusal.specs.declared.Check.{Check}
 use Rattle.refusal.specs.declared.Check.the-variants as check
-use Rattle.refusal.specs.{numberOf, _then_, changedIf}
+use Rattle.refusal.specs.{_then_, changedIf, Answer, answered, refusedAs, answerIf}
+use Rattle.trace.specs.{digit}
 use Rattle.semantics.specs.declared.Verdict.{Verdict}
 use Rattle.semantics.specs.Language.{Program}
-use Rattle.semantics.specs.Table.{cells, finalTable, verdictOf, verdictNumber}
-use Rattle.rule.specs.Reading.{programFrom}
-use Rattle.evaluate.specs.Evaluate.{tableCheck, programIn}
+use Rattle.semantics.specs.Numbering.{cells}
+use Rattle.semantics.specs.Verdicts.{verdictOf, verdictNumber, verdictValues}
+use Rattle.semantics.specs.Passes.{decidedTable}
+use Rattle.semantics.specs.Demand.{Decides}
+use Rattle.rule.specs.Form.{Accepted}
+use Rattle.rule.specs.Reading.{programOf}
+use Rattle.evaluate.specs.Evaluate.{tableCheck}
 use Rattle.record.specs.declared.Checked.{Checked}
 use Rattle.record.specs.declared.Checked.the-variants as checked
 use Rattle.record.specs.declared.Examined.{Examined}
 use Rattle.record.specs.Form.{Contents, samplesOf}
-use Rattle.record.specs.Reading.{contentsIn, readCheck, reading}
+use Rattle.record.specs.Reading.{contentsIn, readCheck, reading, trailerCheck}
 
 -- the program that a record holds
-abbrev pub programOf : Contents → Program
-programOf c = programIn (programFrom (c .program))
+abbrev pub programHeld : Contents → Program
+programHeld c = programOf (c .program)
 
 -- 1 to 17, then 21
 unfoldable pub recordCheck : List ℕ → ℕ → Check
 recordCheck bytes lent =
     let c = contentsIn bytes in
-    readCheck bytes then tableCheck (cells (samplesOf c) (programOf c)) lent
+    readCheck bytes then tableCheck (cells (samplesOf c) (programHeld c)) lent
 
 -- 'over verdict and pass count together'
 abbrev pub agrees : ℕ → ℕ → Verdict → Bool
@@ -45,27 +50,38 @@ checkedBy (check.Refused f) c v = checked.Refused f
 unfoldable pub checking : List ℕ → ℕ → Checked
 checking bytes lent =
     let c = contentsIn bytes in
-    checkedBy (recordCheck bytes lent) c (verdictOf (programOf c) (samplesOf c))
+    checkedBy (recordCheck bytes lent) c (verdictOf (programHeld c) (samplesOf c))
 
 -- the table: the cells worked out; beyond them it keeps its content
 unfoldable pub tableChecked : List ℕ → List ℕ → List ℕ
 tableChecked bytes table =
     let c = contentsIn bytes in
-    let P = programOf c in
-    let t = samplesOf c in
-    changedIf (recordCheck bytes (length table)) (finalTable P t ++ drop (cells t P) table) table
+    changedIf (recordCheck bytes (length table)) (decidedTable (programHeld c) (samplesOf c) table) table
 
--- the number of an answer, 0 for none
-abbrev pub checkedNumber : Checked → ℕ
-checkedNumber (checked.Agrees v) = 0
-checkedNumber (checked.Differs v) = 0
-checkedNumber (checked.Refused f) = numberOf f
+-- the answer in numbers: 1 for 'agrees' and 0 for 'differs', the number of the verdict worked out and its pass count
+abbrev pub checkedAnswer : Checked → Answer
+checkedAnswer (checked.Agrees v) = answered (1 ∷ verdictValues v)
+checkedAnswer (checked.Differs v) = answered (0 ∷ verdictValues v)
+checkedAnswer (checked.Refused f) = refusedAs f
 
--- the verdict that an answer holds
-abbrev pub Holds : Checked → Verdict → Type 0
-Holds (checked.Agrees v) w = v ≡ w
-Holds (checked.Differs v) w = v ≡ w
-Holds (checked.Refused f) w = ⊥
+-- what checking answers, in numbers
+abbrev pub checkNumbers : List ℕ → ℕ → Answer
+checkNumbers bytes lent =
+    let c = contentsIn bytes in
+    let v = verdictOf (programHeld c) (samplesOf c) in
+    answerIf (recordCheck bytes lent) (digit (agrees (c .verdict) (c .passes) v) ∷ verdictValues v)
+
+-- Demand 3, of the verdict that checking works out: for bytes that end in a record whose trailer is not refused, the program
+-- that it holds an accepted encoding of, and a table that 21 leaves
+abbrev pub CheckDemand3 : List ℕ → ℕ → (Verdict → Type 0) → List ℕ → Type 0
+CheckDemand3 bytes lent Told table =
+    (P : Program) → trailerCheck bytes ≡ check.Passed → Accepted (contentsIn bytes .program) P
+    → tableCheck (cells (samplesOf (contentsIn bytes)) P) lent ≡ check.Passed
+    → (v : Verdict) × Told v × Decides P (samplesOf (contentsIn bytes)) v table
+
+-- what is told of a verdict: whether the record has it, over verdict and pass count together
+abbrev pub judgedBy : List ℕ → Verdict → Checked
+judgedBy bytes v = compared (agrees (contentsIn bytes .verdict) (contentsIn bytes .passes) v) v
 
 -- reading and checking in one
 unfoldable pub examining : List ℕ → ℕ → Examined

@@ -1,13 +1,13 @@
 -- 'Reading' a record, of document 01: from the last byte backwards; its refusals, 1 to 17, and the parts it yields.
 use Prim.Native.Nat.{ℕ, _+_, _-_}
 use mathlib.Core.Bool.{Bool, not, _||_}
-use mathlib.Core.List.{List}
+use mathlib.Core.List.{List, _∷_, []}
 use lib.Dec.{eqb, leb, ltb}
 use lib.ListN.{length, getD, take, drop}
 use Rattle.refusal.specs.declared.Refusal.the-variants.{TrailerMissing, MarkOrFormat, TrailerFields, VerdictOrPasses}
 use Rattle.refusal.specs.declared.Check.{Check}
 use Rattle.refusal.specs.declared.Check.the-variants as check
-use Rattle.refusal.specs.{numberOf, refuseIf, _then_}
+use Rattle.refusal.specs.{refuseIf, _then_, Answer, answered, refusedAs}
 use Rattle.trace.specs.{mostSamples, bytesFor}
 use Rattle.rule.specs.Reading.{programCheck}
 use Rattle.encoding.specs.{fromLow}
@@ -118,7 +118,22 @@ readBy (check.Refused f) p = read.Refused f
 unfoldable pub reading : List ℕ → Reading
 reading bytes = readBy (readCheck bytes) (partsIn bytes)
 
--- the number of an answer, 0 for none
-abbrev pub readNumber : Reading → ℕ
-readNumber (read.Record p) = 0
-readNumber (read.Refused f) = numberOf f
+-- the parts in numbers: program start and length, trace start and length, n, label start, verdict, passes, bytes before the
+-- record
+abbrev pub partsValues : Parts → List ℕ
+partsValues p =
+    p .program .start
+    ∷ p .program .length
+    ∷ p .trace .start
+    ∷ p .trace .length
+    ∷ p .n
+    ∷ p .label .start
+    ∷ p .verdict
+    ∷ p .passes
+    ∷ p .program .start
+    ∷ []
+
+-- the answer in numbers
+abbrev pub readAnswer : Reading → Answer
+readAnswer (read.Record p) = answered (partsValues p)
+readAnswer (read.Refused f) = refusedAs f

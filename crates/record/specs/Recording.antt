@@ -1,17 +1,18 @@
 -- 'Recording', of document 01: its refusals (5 to 17, 20 to 22), its answer, what it leaves in the table and writes.
 use Prim.Native.Nat.{ℕ}
-use mathlib.Core.List.{List}
+use mathlib.Core.Path.{_≡_}
+use mathlib.Core.List.{List, _∷_}
 use lib.Dec.{ltb}
 use lib.ListN.{length}
 use Rattle.refusal.specs.declared.Refusal.the-variants.{OutputShort}
 use Rattle.refusal.specs.declared.Check.{Check}
 use Rattle.refusal.specs.declared.Check.the-variants as check
-use Rattle.refusal.specs.{numberOf, refuseIf, _then_, changedIf}
+use Rattle.refusal.specs.{refuseIf, _then_, changedIf, Answer, answered, refusedAs}
 use Rattle.trace.specs.{samples, pack}
 use Rattle.semantics.specs.declared.Verdict.{Verdict}
-use Rattle.semantics.specs.Table.{verdictOf, verdictNumber}
-use Rattle.rule.specs.Reading.{programFrom}
-use Rattle.evaluate.specs.Evaluate.{evaluateCheck, programIn, tableEvaluated}
+use Rattle.semantics.specs.Verdicts.{verdictOf, verdictNumber, verdictValues}
+use Rattle.rule.specs.Reading.{programOf}
+use Rattle.evaluate.specs.Evaluate.{evaluateCheck, tableEvaluated, Demand3}
 use Rattle.encoding.specs.{begins}
 use Rattle.record.specs.declared.Written.{Written}
 use Rattle.record.specs.declared.Written.the-variants as written
@@ -19,7 +20,7 @@ use Rattle.record.specs.Form.{Contents, layout}
 
 -- 'works the verdict out itself from program, trace and label, and is never handed one'
 abbrev pub workedOut : List ℕ → List ℕ → ℕ → Verdict
-workedOut program trace n = verdictOf (programIn (programFrom program)) (samples trace n)
+workedOut program trace n = verdictOf (programOf program) (samples trace n)
 
 -- what is recorded with a verdict; bits above the last sample are written 0
 unfoldable pub recorded : List ℕ → List ℕ → ℕ → List ℕ → Verdict → Contents
@@ -37,11 +38,13 @@ recorded program trace n label v =
 unfoldable pub recordOf : List ℕ → List ℕ → ℕ → List ℕ → List ℕ
 recordOf program trace n label = layout (recorded program trace n label (workedOut program trace n))
 
--- 5 to 17, 20, 21, then 22: 'the output is shorter than what is to be written'
+-- 22: 'the output is shorter than what is to be written'
+abbrev pub roomCheck : List ℕ → List ℕ → ℕ → List ℕ → ℕ → Check
+roomCheck program trace n label room = refuseIf (ltb room (length (recordOf program trace n label))) OutputShort
+
+-- 5 to 17, 20, 21, then 22
 unfoldable pub writeCheck : List ℕ → List ℕ → ℕ → List ℕ → ℕ → ℕ → Check
-writeCheck program trace n label lent room =
-    evaluateCheck program trace n lent
-    then refuseIf (ltb room (length (recordOf program trace n label))) OutputShort
+writeCheck program trace n label lent room = evaluateCheck program trace n lent then roomCheck program trace n label room
 
 abbrev pub writtenBy : Check → ℕ → Verdict → Written
 writtenBy check.Passed size v = written.Record size v
@@ -65,7 +68,12 @@ unfoldable pub tableWritten : List ℕ → List ℕ → ℕ → List ℕ → Lis
 tableWritten program trace n label table room =
     changedIf (writeCheck program trace n label (length table) room) (tableEvaluated program trace n table) table
 
--- the number of an answer, 0 for none
-abbrev pub writtenNumber : Written → ℕ
-writtenNumber (written.Record size v) = 0
-writtenNumber (written.Refused f) = numberOf f
+-- the answer in numbers: the record's length, the verdict's number and its pass count
+abbrev pub writtenAnswer : Written → Answer
+writtenAnswer (written.Record size v) = answered (size ∷ verdictValues v)
+writtenAnswer (written.Refused f) = refusedAs f
+
+-- Demand 3, of the verdict that recording works out: as evaluating owes it, for an output that 22 leaves
+abbrev pub RecordDemand3 : List ℕ → List ℕ → ℕ → List ℕ → ℕ → ℕ → (Verdict → Type 0) → List ℕ → Type 0
+RecordDemand3 program trace n label lent room Told table =
+    roomCheck program trace n label room ≡ check.Passed → Demand3 program trace n lent Told table

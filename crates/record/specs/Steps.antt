@@ -12,7 +12,7 @@ use Rattle.refusal.specs.declared.Check.the-variants as check
 use Rattle.refusal.specs.{refuseIf}
 use Rattle.trace.specs.{mostSamples}
 use Rattle.semantics.specs.declared.Verdict.{Verdict}
-use Rattle.semantics.specs.Table.{verdictNumber}
+use Rattle.semantics.specs.Verdicts.{verdictNumber}
 use Rattle.rule.specs.Form.{mostBytes}
 use Rattle.record.specs.declared.Parts.{Parts}
 use Rattle.record.specs.declared.Reading.{Reading}
@@ -35,8 +35,8 @@ pub record Distances (len at first second : ℕ) : Type 0 where
   pub tail : afterTrace ≤ second
 
 -- 4, and the parts by the trailer's place and fields
-unfoldable pub storedAt : List ℕ → ℕ → ℕ → ℕ → ℕ → Reading
-storedAt bytes at first second n =
+unfoldable pub partsStored : List ℕ → ℕ → ℕ → ℕ → ℕ → Reading
+partsStored bytes at first second n =
     readBy
     (refuseIf (ltb mostVerdict (getD bytes (at - 5) 0) || eqb (numberAt 4 (at - 4) bytes) 0) VerdictOrPasses)
     (record {

@@ -6,7 +6,7 @@ ghost use mathlib.Core.List.{[], _∷_, _++_};
 ghost use lib.ListN.{length};
 ghost use Rattle.trace.specs.{bytesFor, samples, packedInto};
 ghost use Rattle.trace.specs.{pack as Trace·pack};
-ghost use Rattle.semantics.specs.Table.{verdictNumber};
+ghost use Rattle.semantics.specs.Verdicts.{verdictNumber};
 ghost use Rattle.encoding.specs.{lowFirst, begins, put, placeAfter};
 ghost use Rattle.record.specs.Form.{format, mark, mostVerdict, layout};
 ghost use Rattle.record.specs.Recording.{recorded};

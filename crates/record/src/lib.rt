@@ -9,19 +9,15 @@ use refusal::Check;
 use refusal::Refusal;
 use semantics::Verdict;
 ghost use mathlib.Core.Path.{_≡_};
-ghost use Prim.Native.Nat.{ℕ};
+ghost use mathlib.Core.List.{_∷_};
 ghost use lib.ListN.{length};
-ghost use Rattle.trace.specs.{samples};
-ghost use Rattle.semantics.specs.declared.Verdict.{Verdict};
-ghost use Rattle.semantics.specs.Language.{Program};
-ghost use Rattle.semantics.specs.Demand.{Decides};
-ghost use Rattle.rule.specs.Form.{Accepted};
+ghost use Rattle.refusal.specs.{answerIf};
+ghost use Rattle.semantics.specs.Verdicts.{verdictValues};
 ghost use Rattle.rule.specs.Reading.{programCheck};
 ghost use Rattle.record.specs.declared.Written.the-variants as Written;
-ghost use Rattle.record.specs.Form.{samplesOf};
-ghost use Rattle.record.specs.Reading.{partOf, contentsIn, reading};
-ghost use Rattle.record.specs.Recording.{writing, outputWritten, tableWritten};
-ghost use Rattle.record.specs.Checking.{checking, tableChecked, Holds, examining, agrees, compared};
+ghost use Rattle.record.specs.Reading.{partOf, partsIn, readCheck, reading, partsValues, readAnswer};
+ghost use Rattle.record.specs.Recording.{workedOut, recordOf, writeCheck, writing, writtenAnswer, outputWritten, tableWritten, RecordDemand3};
+ghost use Rattle.record.specs.Checking.{checking, checkedAnswer, checkNumbers, tableChecked, CheckDemand3, judgedBy, examining, agrees, compared};
 ghost use Rattle.record.specs.Steps.{bothRefused, refusedBy};
 
 // The format and the mark of a record.
@@ -93,9 +89,10 @@ pub fn write(
     out: &mut [u8],
 ) -> Written
     ensures answer { λ r. ⌜ r ≡ writing (now (program .entry)) (now (trace .entry)) n label (length (now (table .entry))) (length (now (out .entry))) ⌝ }
+    ensures numbers { λ r. ⌜ writtenAnswer r ≡ answerIf (writeCheck (now (program .entry)) (now (trace .entry)) n label (length (now (table .entry))) (length (now (out .entry)))) (length (recordOf (now (program .entry)) (now (trace .entry)) n label) ∷ verdictValues (workedOut (now (program .entry)) (now (trace .entry)) n)) ⌝ }
     ensures output { λ _. ⌜ now (out .exit) ≡ outputWritten (now (program .entry)) (now (trace .entry)) n label (length (now (table .entry))) (now (out .entry)) ⌝ }
     ensures cells { λ _. ⌜ now (table .exit) ≡ tableWritten (now (program .entry)) (now (trace .entry)) n label (now (table .entry)) (length (now (out .entry))) ⌝ }
-    ensures decides { λ r. ⌜ ((size : ℕ) (v : Verdict) → r ≡ Written.Record size v → (P : Program) × Accepted (now (program .entry)) P × Decides P (samples (now (trace .entry)) n) v (now (table .exit))) ⌝ }
+    ensures decides { λ r. ⌜ RecordDemand3 (now (program .entry)) (now (trace .entry)) n label (length (now (table .entry))) (length (now (out .entry))) (λ v. r ≡ Written.Record (length (recordOf (now (program .entry)) (now (trace .entry)) n label)) v) (now (table .exit)) ⌝ }
 {
     let size = program.len() + trace::bytes_for(n) + AFTER_TRACE + TRAILER;
     if out.len() < size {
@@ -115,7 +112,8 @@ pub fn write(
 
 // Reads the record that the bytes end in.
 pub fn read(bytes: &[u8]) -> Reading
-    ensures { λ r. ⌜ r ≡ reading (now (bytes .entry)) ⌝ }
+    ensures answer { λ r. ⌜ r ≡ reading (now (bytes .entry)) ⌝ }
+    ensures numbers { λ r. ⌜ readAnswer r ≡ answerIf (readCheck (now (bytes .entry))) (partsValues (partsIn (now (bytes .entry)))) ⌝ }
 {
     match trailer::parts(bytes) {
         Reading::Refused(refusal) => Reading::Refused(refusal),
@@ -151,8 +149,9 @@ pub fn part(bytes: &[u8], span: Span) -> &[u8]
 // Checks the record that the bytes end in: works verdict and passes out again over the lent table.
 pub fn check(bytes: &[u8], table: &mut [u16]) -> Checked
     ensures answer { λ r. ⌜ r ≡ checking (now (bytes .entry)) (length (now (table .entry))) ⌝ }
+    ensures numbers { λ r. ⌜ checkedAnswer r ≡ checkNumbers (now (bytes .entry)) (length (now (table .entry))) ⌝ }
     ensures cells { λ _. ⌜ now (table .exit) ≡ tableChecked (now (bytes .entry)) (now (table .entry)) ⌝ }
-    ensures decides { λ r. ⌜ ((v : Verdict) → Holds r v → (P : Program) × Accepted (contentsIn (now (bytes .entry)) .program) P × Decides P (samplesOf (contentsIn (now (bytes .entry)))) v (now (table .exit))) ⌝ }
+    ensures decides { λ r. ⌜ CheckDemand3 (now (bytes .entry)) (length (now (table .entry))) (λ v. r ≡ judgedBy (now (bytes .entry)) v) (now (table .exit)) ⌝ }
 {
     let examined = examine(bytes, table);
     examined.checked
@@ -162,7 +161,7 @@ pub fn check(bytes: &[u8], table: &mut [u16]) -> Checked
 pub fn examine(bytes: &[u8], table: &mut [u16]) -> Examined
     ensures answer { λ r. ⌜ r ≡ examining (now (bytes .entry)) (length (now (table .entry))) ⌝ }
     ensures cells { λ _. ⌜ now (table .exit) ≡ tableChecked (now (bytes .entry)) (now (table .entry)) ⌝ }
-    ensures decides { λ r. ⌜ ((v : Verdict) → Holds (r .checked) v → (P : Program) × Accepted (contentsIn (now (bytes .entry)) .program) P × Decides P (samplesOf (contentsIn (now (bytes .entry)))) v (now (table .exit))) ⌝ }
+    ensures decides { λ r. ⌜ CheckDemand3 (now (bytes .entry)) (length (now (table .entry))) (λ v. r .checked ≡ judgedBy (now (bytes .entry)) v) (now (table .exit)) ⌝ }
 {
     match trailer::parts(bytes) {
         Reading::Refused(refusal) => refused(refusal),

@@ -7,7 +7,7 @@ ghost use mathlib.Core.Path.{_≡_};
 ghost use Prim.Native.Nat.{_+_, _≤_};
 ghost use lib.ListN.{length};
 ghost use Rattle.record.specs.Reading.{numberAt, fieldsFault};
-ghost use Rattle.record.specs.Steps.{located, storedAt, Distances};
+ghost use Rattle.record.specs.Steps.{located, partsStored, Distances};
 
 // The parts of the record that the bytes end in; its program is not judged.
 pub fn parts(bytes: &[u8]) -> Reading
@@ -30,7 +30,7 @@ pub fn parts(bytes: &[u8]) -> Reading
     if fields_fault(at, first, second, n as usize) {
         return Reading::Refused(Refusal::TrailerFields);
     }
-    stored(bytes, at, first, second, n)
+    stored_parts(bytes, at, first, second, n)
 }
 
 // The number of 16 bits at a place.
@@ -66,9 +66,9 @@ fn fields_fault(before: usize, first: usize, second: usize, n: usize) -> bool
 }
 
 // The parts of a record whose trailer stands at a place and has these fields, unless 4 applies.
-fn stored(bytes: &[u8], at: usize, first: usize, second: usize, n: u16) -> Reading
+fn stored_parts(bytes: &[u8], at: usize, first: usize, second: usize, n: u16) -> Reading
     requires { ⌜ Distances (length (now bytes)) at first second ⌝ }
-    ensures { λ r. ⌜ r ≡ storedAt (now (bytes .entry)) at first second n ⌝ }
+    ensures { λ r. ⌜ r ≡ partsStored (now (bytes .entry)) at first second n ⌝ }
 {
     let verdict = bytes[at - 5];
     let passes = thirty_two(bytes, at - 4);

@@ -1,8 +1,13 @@
--- 'What is refused' of document 01: the number of each refusal, and which of several applies.
-use Prim.Native.Nat.{ℕ}
-use mathlib.Core.Bool.{Bool, true, false}
+-- 'What is refused' of document 01: the number of each refusal, the refusal with a number, and which of several
+-- applies.
+use Prim.Native.Nat.{ℕ, zero, suc}
+use mathlib.Core.Bool.{Bool, true, false, cond}
+use mathlib.Core.List.{List, [], _∷_}
+use mathlib.Core.Option.{Option, none, some}
+use lib.Dec.{eqb}
+use lib.ListN.{getElem?}
 use Rattle.refusal.specs.declared.Refusal.{Refusal}
-use Rattle.refusal.specs.declared.Refusal.the-variants.{TrailerMissing, MarkOrFormat, TrailerFields, VerdictOrPasses, ProgramLength, FunctionCount, HeaderCut, ParameterKinds, BodyLength, BytesAfterFunctions, MainKind, BodyEnds, TooDeep, ListConstructor, UnknownByte, WrongKind, BytesAfterExpression, RingLength, RingState, TraceLength, TableShort, OutputShort}
+use declared.Refusal.the-variants.*
 use Rattle.refusal.specs.declared.Check.{Check}
 use Rattle.refusal.specs.declared.Check.the-variants.{Passed, Refused}
 
@@ -53,10 +58,28 @@ numberOf TableShort = 21
 -- the output is shorter than what is to be written
 numberOf OutputShort = 22
 
+-- the refusals in the order of the list
+abbrev pub refusals : List Refusal
+refusals =
+    TrailerMissing ∷ MarkOrFormat ∷ TrailerFields ∷ VerdictOrPasses ∷ ProgramLength ∷ FunctionCount ∷
+    HeaderCut ∷ ParameterKinds ∷ BodyLength ∷ BytesAfterFunctions ∷ MainKind ∷ BodyEnds ∷
+    TooDeep ∷ ListConstructor ∷ UnknownByte ∷ WrongKind ∷ BytesAfterExpression ∷ RingLength ∷
+    RingState ∷ TraceLength ∷ TableShort ∷ OutputShort ∷ []
+
 -- the number of a check's answer; 0 stands for no refusal
 abbrev pub checkNumber : Check → ℕ
 checkNumber Passed = 0
 checkNumber (Refused f) = numberOf f
+
+-- a refusal that may be there
+abbrev pub checkBy : Option Refusal → Check
+checkBy none = Passed
+checkBy (some f) = Refused f
+
+-- the check with a number; 0 and the numbers past the list stand for no refusal
+abbrev pub checkOf : ℕ → Check
+checkOf zero = Passed
+checkOf (suc n) = checkBy (getElem? refusals n)
 
 -- one entry of the list: the refusal, where what it names is the case
 abbrev pub refuseIf : Bool → Refusal → Check
@@ -73,3 +96,25 @@ _then_ (Refused f) next = Refused f
 abbrev pub changedIf : {A : Type 0} → Check → A → A → A
 changedIf Passed new old = new
 changedIf (Refused f) new old = old
+
+-- ---- Answers
+
+-- an answer in this paper's numbers: the number of the refusal, 0 for none, and the values that come with it
+pub record Answer : Type 0 where
+  pub number : ℕ
+  pub values : List ℕ
+
+abbrev pub answered : List ℕ → Answer
+answered values = record { number = 0; values = values }
+
+abbrev pub refusedAs : Refusal → Answer
+refusedAs f = record { number = numberOf f; values = [] }
+
+-- what an operation answers: its values where nothing is refused, else the number of the refusal
+abbrev pub answerIf : Check → List ℕ → Answer
+answerIf Passed values = answered values
+answerIf (Refused f) values = refusedAs f
+
+-- what memory lent for the values then holds: a refusal leaves what was there
+unfoldable pub valuesLeft : Answer → List ℕ → List ℕ
+valuesLeft a old = cond (eqb (a .number) 0) (a .values) old

@@ -1,7 +1,7 @@
 // The refusals of 'What is refused' in document 01. Each case has the number that the document gives
 // it, and no two cases have the same.
 ghost use mathlib.Core.Path.{_≡_};
-ghost use Rattle.refusal.specs.{numberOf, checkNumber};
+ghost use Rattle.refusal.specs.{numberOf, checkNumber, checkOf};
 
 // What is wrong, in the order of the list.
 pub enum Refusal {
@@ -72,5 +72,36 @@ pub fn check_number(check: Check) -> u32
     match check {
         Check::Passed => 0,
         Check::Refused(refusal) => number(refusal),
+    }
+}
+
+// The refusal with a number; 0, and what is no refusal's number, stand for none.
+pub fn numbered(number: usize) -> Check
+    ensures { λ r. ⌜ r ≡ checkOf number ⌝ }
+{
+    match number {
+        1 => Check::Refused(Refusal::TrailerMissing),
+        2 => Check::Refused(Refusal::MarkOrFormat),
+        3 => Check::Refused(Refusal::TrailerFields),
+        4 => Check::Refused(Refusal::VerdictOrPasses),
+        5 => Check::Refused(Refusal::ProgramLength),
+        6 => Check::Refused(Refusal::FunctionCount),
+        7 => Check::Refused(Refusal::HeaderCut),
+        8 => Check::Refused(Refusal::ParameterKinds),
+        9 => Check::Refused(Refusal::BodyLength),
+        10 => Check::Refused(Refusal::BytesAfterFunctions),
+        11 => Check::Refused(Refusal::MainKind),
+        12 => Check::Refused(Refusal::BodyEnds),
+        13 => Check::Refused(Refusal::TooDeep),
+        14 => Check::Refused(Refusal::ListConstructor),
+        15 => Check::Refused(Refusal::UnknownByte),
+        16 => Check::Refused(Refusal::WrongKind),
+        17 => Check::Refused(Refusal::BytesAfterExpression),
+        18 => Check::Refused(Refusal::RingLength),
+        19 => Check::Refused(Refusal::RingState),
+        20 => Check::Refused(Refusal::TraceLength),
+        21 => Check::Refused(Refusal::TableShort),
+        22 => Check::Refused(Refusal::OutputShort),
+        _ => Check::Passed,
     }
 }

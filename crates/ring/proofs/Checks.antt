@@ -19,7 +19,7 @@ use Rattle.refusal.specs.{refuseIf, _then_}
 use Rattle.refusal.proofs.Numbers.{refused}
 use Rattle.trace.specs.{mostSamples, bytesFor}
 use Rattle.ring.specs.declared.Ring.{Ring}
-use Rattle.ring.specs.{ringCheck, traceCheck, following, stepped}
+use Rattle.ring.specs.{ringCheck, takeCheck, following, stepped}
 use Rattle.ring.specs.Place.{Sound}
 
 module _ (len : ℕ) (ring : Ring) where
@@ -58,20 +58,20 @@ module _ (len : ℕ) (ring : Ring) where
       go false false false false ea eb ec ed e =
           record { few = ltb-false _ _ eb; within = leb-false _ _ ec; fits = ltb-false _ _ ed }
 
-  pub room-refused : (room : ℕ) {f : Refusal} → ringCheck len ring ≡ Refused f → Refused f ≡ traceCheck len ring room
-  unfolding traceCheck
+  pub room-refused : (room : ℕ) {f : Refusal} → ringCheck len ring ≡ Refused f → Refused f ≡ takeCheck len ring room
+  unfolding takeCheck
   room-refused room p = simp p
 
-  pub room-short : (room : ℕ) → ringCheck len ring ≡ Passed → room < bytesFor (ring .count) → Refused OutputShort ≡ traceCheck len ring room
-  unfolding traceCheck
+  pub room-short : (room : ℕ) → ringCheck len ring ≡ Passed → room < bytesFor (ring .count) → Refused OutputShort ≡ takeCheck len ring room
+  unfolding takeCheck
   room-short room p h = simp (p, lt-ltb _ _ h)
 
-  pub room-enough : (room : ℕ) → ringCheck len ring ≡ Passed → bytesFor (ring .count) ≤ room → traceCheck len ring room ≡ Passed
-  unfolding traceCheck
+  pub room-enough : (room : ℕ) → ringCheck len ring ≡ Passed → bytesFor (ring .count) ≤ room → takeCheck len ring room ≡ Passed
+  unfolding takeCheck
   room-enough room p h = simp (p, le-ltb _ _ h)
 
-  pub room-sound : (room : ℕ) → traceCheck len ring room ≡ Passed → Sound len ring × (bytesFor (ring .count) ≤ room)
-  unfolding traceCheck
+  pub room-sound : (room : ℕ) → takeCheck len ring room ≡ Passed → Sound len ring × (bytesFor (ring .count) ≤ room)
+  unfolding takeCheck
   room-sound room e = go (ringCheck len ring) (ltb room (bytesFor (ring .count))) refl refl e
     where
       go : (k : Check) (b : Bool) → ringCheck len ring ≡ k → ltb room (bytesFor (ring .count)) ≡ b → (k then refuseIf b OutputShort) ≡ Passed

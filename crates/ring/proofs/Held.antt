@@ -14,7 +14,7 @@ use lib.ListN.{length, getD, set, drop, length-map, List·getD-map}
 use lib.Seq.{drop-length, getD-drop}
 use Rattle.trace.specs.{digit}
 use Rattle.ring.specs.declared.Ring.{Ring}
-use Rattle.ring.specs.{newRing, reads, around, lastOf, held, stored, stepped}
+use Rattle.ring.specs.{newRing, reads, around, lastOf, held, sampleByte, stepped}
 use Rattle.ring.specs.Place.{Sound, placeBefore}
 use Rattle.ring.proofs.Round.{length-last, length-around, around-at, around-set, last-step}
 
@@ -62,8 +62,10 @@ module _ (slots : List ℕ) (ring : Ring) (sound : Sound (length slots) ring) wh
       ∙ around-at m (ring .next) (length slots - back) false (omega (arith, len, sound .within)) (omega (arith, len, sound .fits))
       ∙ rw len (List·getD-map reads slots _ 0)
 
-  pub held-step : (sample : ℕ) → held (set slots (ring .next) (stored sample)) (stepped (length slots) ring) ≡ lastOf (length slots) (held slots ring ++ (reads sample ∷ []))
-  unfolding held stored stepped
+  pub held-step : (sample : ℕ)
+      → held (set slots (ring .next) (sampleByte sample)) (stepped (length slots) ring)
+      ≡ lastOf (length slots) (held slots ring ++ (reads sample ∷ []))
+  unfolding held sampleByte stepped
   held-step sample =
       let m = map reads slots in
       let b = reads sample in

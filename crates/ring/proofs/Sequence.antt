@@ -11,7 +11,8 @@ use lib.ListN.{length, set, length-set}
 use borrow.Author.Tests.{eqb-false}
 use Rattle.trace.specs.{mostSamples, bytesFor, packedInto}
 use Rattle.ring.specs.declared.Ring.{Ring}
-use Rattle.ring.specs.{newRing, reads, lastOf, held, stored, following, stepped, slotsAfter, ringAfter, outputAfter, samplesTaken, Lent, addAll, TakenAs, YieldsLast}
+use Rattle.ring.specs.declared.Taken.the-variants as taken
+use Rattle.ring.specs.{newRing, reads, lastOf, held, sampleByte, following, stepped, slotsAfter, ringAfter, outputAfter, taking, Lent, addAll, TakenAs, YieldsLast}
 use Rattle.ring.specs.Place.{Sound}
 use Rattle.ring.proofs.Round.{last-all, last-append}
 use Rattle.ring.proofs.Held.{held-new, length-held, held-step}
@@ -28,7 +29,8 @@ sound-step len ring s = go (eqb (ring .next + 1) len) refl
         let other = eqb-false (ring .next + 1) len e in
         record { few = s .few; within = omega (arith, s .within, other); fits = omega arith }
 
-slots-stored : (slots : List ℕ) (ring : Ring) (sample : ℕ) → Sound (length slots) ring → slotsAfter slots ring sample ≡ set slots (ring .next) (stored sample)
+slots-stored : (slots : List ℕ) (ring : Ring) (sample : ℕ) → Sound (length slots) ring
+    → slotsAfter slots ring sample ≡ set slots (ring .next) (sampleByte sample)
 unfolding slotsAfter
 slots-stored slots ring sample s = rw (check-passed (length slots) ring s)
 
@@ -53,8 +55,8 @@ held-all slots ring [] s =
     }
 held-all slots ring (sample ∷ samples) s =
     let n = length slots in
-    let next = set slots (ring .next) (stored sample) in
-    let same : length next ≡ n = length-set slots (ring .next) (stored sample) in
+    let next = set slots (ring .next) (sampleByte sample) in
+    let same : length next ≡ n = length-set slots (ring .next) (sampleByte sample) in
     let sound : Sound n (stepped n ring) = sound-step n ring s in
     let rest = held-all next (stepped n ring) samples (rw same sound) in
     rw (slots-stored slots ring sample s, ring-stepped n ring s)
@@ -66,14 +68,15 @@ held-all slots ring (sample ∷ samples) s =
     ) at rest)
 
 -- taking the trace of a sound ring
-pub taken-as : (lent : Lent) (bits : List Bool) (out : List ℕ) → Kept lent (length (lent .slots)) bits → bytesFor (length bits) ≤ length out → TakenAs lent out bits
-unfolding outputAfter samplesTaken
+pub taken-as : (lent : Lent) (bits : List Bool) (out : List ℕ) → Kept lent (length (lent .slots)) bits → bytesFor (length bits) ≤ length out
+    → TakenAs lent out bits
+unfolding outputAfter taking
 taken-as lent bits out k room =
     let n = length (lent .slots) in
     let size : lent .ring .count ≡ length bits = sym (length-held (lent .slots) (lent .ring) (k .sound)) ∙ ap length (k .holds) in
     let enough : bytesFor (lent .ring .count) ≤ length out = rw size room in
     let p = room-enough n (lent .ring) (length out) (check-passed n (lent .ring) (k .sound)) enough in
-    record { accepted = p; told = rw p size; packs = rw p (ap (packedInto out) (k .holds)) }
+    record { accepted = p; told = rw p (ap taken.Samples size); packs = rw p (ap (packedInto out) (k .holds)) }
 
 pub yields-last : (slots samples : List ℕ) → 0 < length slots → length slots ≤ mostSamples → YieldsLast slots samples
 yields-last slots samples some few =
@@ -82,5 +85,6 @@ yields-last slots samples some few =
     record {
       sound = rw (k .same) (check-passed (length slots) _ (k .sound));
       holds = k .holds;
-      taken = λ out. taken-as (addAll (record { slots = slots; ring = newRing }) samples) _ out (record { same = refl; sound = rw (k .same) (k .sound); holds = k .holds });
+      taken = λ out. taken-as (addAll (record { slots = slots; ring = newRing }) samples) _ out
+          (record { same = refl; sound = rw (k .same) (k .sound); holds = k .holds });
     }

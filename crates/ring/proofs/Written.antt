@@ -38,7 +38,8 @@ module _ (slots : List ℕ) (ring : Ring) (out₀ : List ℕ) (pre : Sound (leng
       ∙ rw (e, bit) (into-more out₀ (held slots ring) (ring .count - back) (omega (arith, size)) room)
       ∙ ap (λ (n : ℕ). packedInto out₀ (take n (held slots ring))) i
 
-  pub written-end : {out : List ℕ} {back : ℕ} → back ≤ 0 → out ≡ packedInto out₀ (take (ring .count - back) (held slots ring)) → out ≡ packedInto out₀ (held slots ring)
+  pub written-end : {out : List ℕ} {back : ℕ} → back ≤ 0 → out ≡ packedInto out₀ (take (ring .count - back) (held slots ring))
+      → out ≡ packedInto out₀ (held slots ring)
   written-end {back = back} h e =
       e ∙ ap (packedInto out₀) (take-all (ring .count - back) (held slots ring) (omega (arith, size)))
 

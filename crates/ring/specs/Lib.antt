@@ -9,8 +9,8 @@ use lib.Dec.{eqb, leb, ltb}
 use lib.ListN.{length, take, drop, set}
 use Rattle.refusal.specs.declared.Refusal.the-variants.{RingLength, RingState, OutputShort}
 use Rattle.refusal.specs.declared.Check.{Check}
-use Rattle.refusal.specs.declared.Check.the-variants.{Passed}
-use Rattle.refusal.specs.{numberOf, refuseIf, _then_, changedIf}
+use Rattle.refusal.specs.declared.Check.the-variants.{Passed, Refused}
+use Rattle.refusal.specs.{numberOf, refuseIf, _then_, changedIf, Answer, answered, refusedAs}
 use Rattle.trace.specs.{mostSamples, digit, bytesFor, packedInto}
 use Rattle.ring.specs.declared.Ring.{Ring}
 use Rattle.ring.specs.declared.Added.{Added}
@@ -49,8 +49,8 @@ ringCheck len ring =
     then refuseIf (leb len (ring .next) || ltb len (ring .count)) RingState
 
 -- 'a new sample is stored as 0 or 1'
-unfoldable pub stored : ℕ → ℕ
-stored sample = digit (reads sample)
+unfoldable pub sampleByte : ℕ → ℕ
+sampleByte sample = digit (reads sample)
 
 -- the place after a place, going round
 abbrev pub following : Bool → ℕ → ℕ
@@ -64,43 +64,50 @@ stepped len ring =
 
 -- the slots and the state after adding a sample
 unfoldable pub slotsAfter : List ℕ → Ring → ℕ → List ℕ
-slotsAfter slots ring sample = changedIf (ringCheck (length slots) ring) (set slots (ring .next) (stored sample)) slots
+slotsAfter slots ring sample = changedIf (ringCheck (length slots) ring) (set slots (ring .next) (sampleByte sample)) slots
 
 unfoldable pub ringAfter : ℕ → Ring → Ring
 ringAfter len ring = changedIf (ringCheck len ring) (stepped len ring) ring
 
--- the number of an answer, 0 for none, and the state that it hands back
-abbrev pub addedNumber : Added → ℕ
-addedNumber (added.Stored ring) = 0
-addedNumber (added.Refused f ring) = numberOf f
+abbrev pub addedBy : Check → Ring → Ring → Added
+addedBy Passed new old = added.Stored new
+addedBy (Refused f) new old = added.Refused f old
 
-abbrev pub addedRing : Added → Ring
-addedRing (added.Stored ring) = ring
-addedRing (added.Refused f ring) = ring
+-- what adding a sample answers: the new state, or the refusal with the state as it was
+unfoldable pub adding : ℕ → Ring → Added
+adding len ring = addedBy (ringCheck len ring) (stepped len ring) ring
+
+-- the answer in numbers: either way the state that the ring now has
+abbrev pub ringValues : Ring → List ℕ
+ringValues ring = ring .next ∷ ring .count ∷ []
+
+abbrev pub addedAnswer : Added → Answer
+addedAnswer (added.Stored ring) = answered (ringValues ring)
+addedAnswer (added.Refused f ring) = record { number = numberOf f; values = ringValues ring }
 
 -- ---- Taking the trace
 
 -- 18 and 19 as above; 22: the output is shorter than what is to be written
-unfoldable pub traceCheck : ℕ → Ring → ℕ → Check
-traceCheck len ring room = ringCheck len ring then refuseIf (ltb room (bytesFor (ring .count))) OutputShort
+unfoldable pub takeCheck : ℕ → Ring → ℕ → Check
+takeCheck len ring room = ringCheck len ring then refuseIf (ltb room (bytesFor (ring .count))) OutputShort
 
 -- the output after it: the samples held, packed
 unfoldable pub outputAfter : List ℕ → Ring → List ℕ → List ℕ
 outputAfter slots ring out =
-    changedIf (traceCheck (length slots) ring (length out)) (packedInto out (held slots ring)) out
+    changedIf (takeCheck (length slots) ring (length out)) (packedInto out (held slots ring)) out
 
--- the number of samples that is told; 0 with a refusal
-unfoldable pub samplesTaken : ℕ → Ring → ℕ → ℕ
-samplesTaken len ring room = changedIf (traceCheck len ring room) (ring .count) 0
+abbrev pub takenBy : Check → ℕ → Taken
+takenBy Passed n = taken.Samples n
+takenBy (Refused f) n = taken.Refused f
 
--- the number of an answer, 0 for none, and the samples that it tells
-abbrev pub takenNumber : Taken → ℕ
-takenNumber (taken.Samples n) = 0
-takenNumber (taken.Refused f) = numberOf f
+-- what taking the trace answers: how many samples it has
+unfoldable pub taking : ℕ → Ring → ℕ → Taken
+taking len ring room = takenBy (takeCheck len ring room) (ring .count)
 
-abbrev pub takenSamples : Taken → ℕ
-takenSamples (taken.Samples n) = n
-takenSamples (taken.Refused f) = 0
+-- the answer in numbers
+abbrev pub takenAnswer : Taken → Answer
+takenAnswer (taken.Samples n) = answered (n ∷ [])
+takenAnswer (taken.Refused f) = refusedAs f
 
 -- ---- Adding samples one after the other
 
@@ -117,8 +124,8 @@ addAll l (sample ∷ samples) =
 
 -- taking the trace of a ring into an output is not refused, tells so many samples and packs them
 pub record TakenAs (lent : Lent) (out : List ℕ) (bits : List Bool) : Type 0 where
-  pub accepted : traceCheck (length (lent .slots)) (lent .ring) (length out) ≡ Passed
-  pub told : samplesTaken (length (lent .slots)) (lent .ring) (length out) ≡ length bits
+  pub accepted : takeCheck (length (lent .slots)) (lent .ring) (length out) ≡ Passed
+  pub told : taking (length (lent .slots)) (lent .ring) (length out) ≡ taken.Samples (length bits)
   pub packs : outputAfter (lent .slots) (lent .ring) out ≡ packedInto out bits
 
 -- the ring after adding samples to a new one over some slots, and the last of them, as many as fit

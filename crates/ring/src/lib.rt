@@ -6,9 +6,10 @@ use refusal::Refusal;
 ghost use mathlib.Core.Path.{_≡_};
 ghost use Prim.Native.Nat.{_≤_};
 ghost use lib.ListN.{length};
-ghost use Rattle.refusal.specs.{checkNumber};
+ghost use mathlib.Core.List.{[], _∷_};
+ghost use Rattle.refusal.specs.{checkNumber, answerIf};
 ghost use Rattle.trace.specs.{bytesFor, packedInto};
-ghost use Rattle.ring.specs.{newRing, ringCheck, stored, stepped, held, addedNumber, addedRing, ringAfter, slotsAfter, traceCheck, takenNumber, takenSamples, samplesTaken, outputAfter};
+ghost use Rattle.ring.specs.{newRing, ringCheck, sampleByte, stepped, held, adding, ringValues, addedAnswer, ringAfter, slotsAfter, takeCheck, taking, takenAnswer, outputAfter};
 ghost use Rattle.ring.specs.Place.{Sound, Within, placeBefore};
 
 // The state of a ring: the place of the next sample, and how many samples are held.
@@ -38,8 +39,8 @@ pub fn new() -> Ring
 
 // Adds a sample, 0 or, for any other byte, 1. A full ring loses its oldest.
 pub fn add(slots: &mut [u8], ring: Ring, sample: u8) -> Added
-    ensures number { λ r. ⌜ addedNumber r ≡ checkNumber (ringCheck (length (now (slots .entry))) ring) ⌝ }
-    ensures state { λ r. ⌜ addedRing r ≡ ringAfter (length (now (slots .entry))) ring ⌝ }
+    ensures answer { λ r. ⌜ r ≡ adding (length (now (slots .entry))) ring ⌝ }
+    ensures numbers { λ r. ⌜ addedAnswer r ≡ record { number = checkNumber (ringCheck (length (now (slots .entry))) ring); values = ringValues (ringAfter (length (now (slots .entry))) ring) } ⌝ }
     ensures bytes { λ _. ⌜ now (slots .exit) ≡ slotsAfter (now (slots .entry)) ring sample ⌝ }
 {
     let len = slots.len();
@@ -55,8 +56,8 @@ pub fn add(slots: &mut [u8], ring: Ring, sample: u8) -> Added
 
 // Packs what the ring holds into the output, oldest first, and answers how many samples that is.
 pub fn take_trace(slots: &[u8], ring: Ring, out: &mut [u8]) -> Taken
-    ensures number { λ r. ⌜ takenNumber r ≡ checkNumber (traceCheck (length (now (slots .entry))) ring (length (now (out .entry)))) ⌝ }
-    ensures samples { λ r. ⌜ takenSamples r ≡ samplesTaken (length (now (slots .entry))) ring (length (now (out .entry))) ⌝ }
+    ensures answer { λ r. ⌜ r ≡ taking (length (now (slots .entry))) ring (length (now (out .entry))) ⌝ }
+    ensures numbers { λ r. ⌜ takenAnswer r ≡ answerIf (takeCheck (length (now (slots .entry))) ring (length (now (out .entry)))) (ring .count ∷ []) ⌝ }
     ensures output { λ _. ⌜ now (out .exit) ≡ outputAfter (now (slots .entry)) ring (now (out .entry)) ⌝ }
 {
     match check_trace(slots.len(), ring, out.len()) {
@@ -89,7 +90,7 @@ fn check(len: usize, ring: Ring) -> Check
 
 // Whether taking the trace of such a ring into so many bytes is refused.
 fn check_trace(len: usize, ring: Ring, room: usize) -> Check
-    ensures { λ r. ⌜ r ≡ traceCheck len ring room ⌝ }
+    ensures { λ r. ⌜ r ≡ takeCheck len ring room ⌝ }
 {
     match check(len, ring) {
         Check::Refused(refusal) => Check::Refused(refusal),
@@ -105,7 +106,7 @@ fn check_trace(len: usize, ring: Ring, room: usize) -> Check
 
 // The byte that a sample is stored as.
 fn byte_of(sample: u8) -> u8
-    ensures { λ r. ⌜ r ≡ stored sample ⌝ }
+    ensures { λ r. ⌜ r ≡ sampleByte sample ⌝ }
 {
     if sample == 0 { 0 } else { 1 }
 }

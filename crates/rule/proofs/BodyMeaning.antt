@@ -4,7 +4,7 @@
 --   bodies-mean       the bodies in order
 --   main-means        main's kind
 use mathlib.Core.Path.{_≡_, refl}
-use mathlib.Core.Bool.{Bool, true, false, not}
+use mathlib.Core.Bool.{Bool, true, false, not, cond}
 use mathlib.Core.List.{List, [], _∷_}
 use mathlib.Core.Option.{some}
 use Prim.Native.Nat.{ℕ, zero, suc, _+_, _-_, _≤_}
@@ -18,12 +18,11 @@ use Rattle.refusal.specs.declared.Check.the-variants as check
 use Rattle.refusal.specs.{_then_}
 use Rattle.trace.specs.{bitOf}
 use Rattle.semantics.specs.Language.{Kind, truth, list, Expr, Function, Program}
-use Rattle.semantics.specs.Table.{pick}
 use Rattle.rule.specs.declared.Header.{Header}
 use Rattle.rule.specs.Form.{mostDepth, mostBytes}
 use Rattle.rule.specs.Reading.{Parsed, got, refused, onward, kindAt, kindsFrom, paramKinds, resultKind, Raw, exprFrom, wholeBody, functionFrom, functionsFrom, mainKinds, checkFrom}
-use Rattle.rule.specs.Walk.{Frame, stops, checkAt, bodyEnd, bodyAt, bodiesAt, mainBits}
-use Rattle.rule.proofs.Walking.{stop-above}
+use Rattle.rule.specs.Walk.{Frame, firstStop, checkAt, bodyEnd, bodyAt, bodiesAt, mainBits}
+use Rattle.rule.proofs.Walking.{stop-above, stop-back}
 use Rattle.rule.proofs.WalkMeaning.{Framed, Step, went, stopped, kind-bit, ownOf, expr-step}
 
 -- ---- Bodies
@@ -37,14 +36,16 @@ pub record Fitting (H : List Header) (F : Frame) (x : Raw) : Type 0 where
   pub kinds : F .ownKinds ≡ x .header .kinds
 
 -- the end of a body
-end-means : (body : List ℕ) (h : Header) → length body ≤ mostBytes → (w : ℕ) (p : Parsed Expr) → Step body w p → bodyEnd (length body) w ≡ checkFrom (wholeBody h p)
+end-means : (body : List ℕ) (h : Header) → length body ≤ mostBytes → (w : ℕ) (p : Parsed Expr) → Step body w p
+    → bodyEnd (length body) w ≡ checkFrom (wholeBody h p)
 unfolding bodyEnd
-end-means body h short w p (went e to l) = rw (lt-ltb to stops (omega arith)) (go (drop to body) (length-drop to body))
+end-means body h short w p (went e to l) = rw (lt-ltb to firstStop (omega arith)) (go (drop to body) (length-drop to body))
   where
-    go : (rest : List ℕ) → length rest ≡ length body - to → pick (eqb to (length body)) check.Passed (check.Refused BytesAfterExpression) ≡ checkFrom (wholeBody h (got e rest))
+    go : (rest : List ℕ) → length rest ≡ length body - to
+        → cond (eqb to (length body)) check.Passed (check.Refused BytesAfterExpression) ≡ checkFrom (wholeBody h (got e rest))
     go [] n = rw (eq-eqb to (length body) (omega arith))
     go (b ∷ bs) n = rw (ne-eqb to (length body) (λ q. omega arith))
-end-means body h short w p (stopped f e) = rw (le-ltb _ _ (stop-above f), e)
+end-means body h short w p (stopped f) = rw (le-ltb _ _ (stop-above f)) (stop-back f)
 
 pub body-means : (H : List Header) (F : Frame) (x : Raw) → Fitting H F x → bodyAt F ≡ checkFrom (functionFrom H x)
 unfolding bodyAt
@@ -55,7 +56,8 @@ body-means H F x fit =
 
 -- ---- Functions
 
-then-means : {A B C : Type 0} (p : Parsed A) (q : Parsed B) (k : A → B → C) → (checkFrom p then checkFrom q) ≡ checkFrom (onward p (λ a r. onward q (λ b s. got (k a b) s)))
+then-means : {A B C : Type 0} (p : Parsed A) (q : Parsed B) (k : A → B → C)
+    → (checkFrom p then checkFrom q) ≡ checkFrom (onward p (λ a r. onward q (λ b s. got (k a b) s)))
 then-means (got a r) (got b s) k = refl
 then-means (got a r) (refused f) k = refl
 then-means (refused f) q k = refl
@@ -67,7 +69,8 @@ module _ (frames : ℕ → Frame) (H : List Header) where
   bodies-mean [] i fit = refl
   bodies-mean (x ∷ xs) i fit =
       let here : Fitting H (frames i) x = rw (add-zero i) at (fit 0 x refl) in
-      let rest : bodiesAt frames (length xs) (i + 1) ≡ checkFrom (functionsFrom H xs) = bodies-mean xs (i + 1) (λ j y e. rw (moved j) (fit (suc j) y e)) in
+      let rest : bodiesAt frames (length xs) (i + 1) ≡ checkFrom (functionsFrom H xs) =
+      bodies-mean xs (i + 1) (λ j y e. rw (moved j) (fit (suc j) y e)) in
       rw (body-means H (frames i) x here, rest) (then-means (functionFrom H x) (functionsFrom H xs) (λ (f : Function) (fs : Program). f ∷ fs))
     where
       moved : (j : ℕ) → i + 1 + j ≡ i + suc j
@@ -79,12 +82,12 @@ pub main-means : (h : Header) → mainKinds (paramKinds h) (resultKind h) ≡ ma
 unfolding kindsFrom
 main-means h = go (h .params) (h .kinds)
   where
-    one : (a b : Bool) → mainKinds (pick a list truth ∷ []) (pick b list truth) ≡ pick a (not b) false
+    one : (a b : Bool) → mainKinds (cond a list truth ∷ []) (cond b list truth) ≡ cond a (not b) false
     one true true = refl
     one true false = refl
     one false b = refl
 
-    more : (a : Bool) (κ : Kind) (κs : List Kind) (result : Kind) → mainKinds (pick a list truth ∷ κ ∷ κs) result ≡ false
+    more : (a : Bool) (κ : Kind) (κs : List Kind) (result : Kind) → mainKinds (cond a list truth ∷ κ ∷ κs) result ≡ false
     more true κ κs result = refl
     more false κ κs result = refl
 

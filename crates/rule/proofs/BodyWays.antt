@@ -12,22 +12,23 @@ use lib.Seq.{length-take-le}
 use borrow.Author.Tests.{lt-ltb, le-ltb, eq-eqb, ne-eqb}
 use Rattle.refusal.specs.declared.Refusal.{Refusal}
 use Rattle.refusal.specs.declared.Refusal.the-variants.{BytesAfterExpression}
+use Rattle.refusal.specs.declared.Check.{Check}
 use Rattle.refusal.specs.declared.Check.the-variants as check
-use Rattle.refusal.specs.{_then_}
+use Rattle.refusal.specs.{checkOf, _then_}
 use Rattle.trace.specs.{bitOf}
 use Rattle.rule.specs.Form.{mostDepth}
-use Rattle.rule.specs.Walk.{Frame, stops, stoppedBy, checkAt, bodyEnd, bodyAt, bodiesAt}
+use Rattle.rule.specs.Walk.{Frame, firstStop, checkAt, bodyEnd, bodyAt, bodiesAt}
 
 module _ (F : Frame) {list : Bool} (k : list ≡ bitOf 4 (F .ownKinds)) {w : ℕ} (e : w ≡ checkAt F mostDepth list 0) where
-  pub body-passed : w < stops → w ≡ length (F .body) → check.Passed ≡ bodyAt F
+  pub body-passed : w < firstStop → w ≡ length (F .body) → check.Passed ≡ bodyAt F
   unfolding bodyAt bodyEnd
   body-passed h q = rw (← k, ← e, lt-ltb _ _ h, eq-eqb _ _ q)
 
-  pub body-after : w < stops → (w ≡ length (F .body) → ⊥) → check.Refused BytesAfterExpression ≡ bodyAt F
+  pub body-after : w < firstStop → (w ≡ length (F .body) → ⊥) → check.Refused BytesAfterExpression ≡ bodyAt F
   unfolding bodyAt bodyEnd
   body-after h q = rw (← k, ← e, lt-ltb _ _ h, ne-eqb _ _ q)
 
-  pub body-stopped : stops ≤ w → {f : Refusal} → f ≡ stoppedBy w → check.Refused f ≡ bodyAt F
+  pub body-stopped : firstStop ≤ w → {c : Check} → c ≡ checkOf (w - firstStop) → c ≡ bodyAt F
   unfolding bodyAt bodyEnd
   body-stopped h q = rw (← k, ← e, le-ltb _ _ h, ← q)
 

@@ -34,12 +34,14 @@ pub data Heads : Program → List Header → Type 0 where
 un-some : {A : Type 0} {a b : A} → some a ≡ some b → a ≡ b
 un-some e = cc
 
-pub header-of : {P : Program} {H : List Header} → Heads P H → (g : ℕ) (f : Function) → getElem? P g ≡ some f → (h : Header) × (getElem? H g ≡ some h) × Head f h
+pub header-of : {P : Program} {H : List Header} → Heads P H → (g : ℕ) (f : Function) → getElem? P g ≡ some f
+    → (h : Header) × (getElem? H g ≡ some h) × Head f h
 header-of no-heads g f e = let z : _≡_ {A = ℕ} 0 1 = cc in absurd (omega arith)
 header-of (one-head {h = h} p more) zero f e = (h, refl, rw (un-some e) at p)
 header-of (one-head p more) (suc g) f e = header-of more g f e
 
-pub function-of : {P : Program} {H : List Header} → Heads P H → (g : ℕ) (h : Header) → getElem? H g ≡ some h → (f : Function) × (getElem? P g ≡ some f) × Head f h
+pub function-of : {P : Program} {H : List Header} → Heads P H → (g : ℕ) (h : Header) → getElem? H g ≡ some h
+    → (f : Function) × (getElem? P g ≡ some f) × Head f h
 function-of no-heads g h e = let z : _≡_ {A = ℕ} 0 1 = cc in absurd (omega arith)
 function-of (one-head {f = f} p more) zero h e = (f, refl, rw (un-some e) at p)
 function-of (one-head p more) (suc g) h e = function-of more g h e
@@ -62,7 +64,8 @@ module _ (H : List Header) (Γ : List Kind) (d : ℕ) (κ : Kind) where
   unfolding exprFrom encodeExpr
   empty-read rest m = rw node-empty (demanded-met κ list _ m)
 
-  param-read : (i : ℕ) (rest : List ℕ) → i < mostParams → getElem? Γ i ≡ some κ → exprFrom H Γ (suc d) κ (encodeExpr (param i) ++ rest) ≡ got (param i) rest
+  param-read : (i : ℕ) (rest : List ℕ) → i < mostParams → getElem? Γ i ≡ some κ
+      → exprFrom H Γ (suc d) κ (encodeExpr (param i) ++ rest) ≡ got (param i) rest
   unfolding exprFrom encodeExpr
   param-read i rest h m = rw (node-param h, m) (demanded-met κ κ _ refl)
 
@@ -84,7 +87,8 @@ module _ (H : List Header) (Γ : List Kind) (d : ℕ) (κ : Kind) where
   unfolding exprFrom
   call-read g h bs xs rest l e m q = rw (node-call l, e) (demanded-met κ (resultKind h) _ m ∙ rw q)
 
-module _ (P : Program) (H : List Header) (of-program : Heads P H) (few : length P ≤ mostFunctions) (Γ : List Kind) (narrow : length Γ ≤ mostParams) where
+module _ (P : Program) (H : List Header) (of-program : Heads P H) (few : length P ≤ mostFunctions) (Γ : List Kind)
+    (narrow : length Γ ≤ mostParams) where
   mutual
     unfolding encodeExpr encodeArgs depth depthAll argsFrom
 
@@ -112,7 +116,8 @@ module _ (P : Program) (H : List Header) (of-program : Heads P H) (few : length 
         let w = header-of of-program g (m .0) (m .1) in
         let all : MeetAll P Γ (paramKinds (w .0)) xs = rw (w .2 .params) at (m .3) in
         let there = place-below P g (m .0) (m .1) in
-        call-read H Γ d κ g (w .0) (encodeArgs xs ++ rest) xs rest (omega arith) (w .1) (m .2 ∙ w .2 .result) (args-read xs d (paramKinds (w .0)) rest all (omega arith))
+        call-read H Γ d κ g (w .0) (encodeArgs xs ++ rest) xs rest (omega arith) (w .1) (m .2 ∙ w .2 .result)
+        (args-read xs d (paramKinds (w .0)) rest all (omega arith))
 
     pub args-read : (xs : Args) (d : ℕ) (κs : List Kind) (rest : List ℕ) → MeetAll P Γ κs xs → depthAll xs ≤ d
         → argsFrom (λ κ r. exprFrom H Γ d κ r) κs (encodeArgs xs ++ rest) ≡ got xs rest
@@ -136,7 +141,8 @@ AllWritten P Γ d κs bs xs rest = (bs ≡ encodeArgs xs ++ rest) × (depthAll x
 
 -- what each node is written as
 module _ (P : Program) (Γ : List Kind) (d : ℕ) where
-  same-written : (κ : Kind) (bs : List ℕ) (e : Expr) (rest : List ℕ) (e′ : Expr) (rest′ : List ℕ) → Written P Γ d κ bs e rest → got e rest ≡ got e′ rest′
+  same-written : (κ : Kind) (bs : List ℕ) (e : Expr) (rest : List ℕ) (e′ : Expr) (rest′ : List ℕ)
+      → Written P Γ d κ bs e rest → got e rest ≡ got e′ rest′
       → Written P Γ d κ bs e′ rest′
   same-written κ bs e rest e′ rest′ w q = let same = got-inv q in rw (same .0, same .1) w
 
@@ -168,7 +174,8 @@ module _ (P : Program) (Γ : List Kind) (d : ℕ) where
   unfolding encodeExpr depth
   call-written g f κ bs xs rest e m w = (ap (λ (l : List ℕ). (0x80 + g) ∷ l) (w .0), omega (arith, w .1), (f, e, m, w .2))
 
-  same-all : (κs : List Kind) (bs : List ℕ) (xs : Args) (rest : List ℕ) (xs′ : Args) (rest′ : List ℕ) → AllWritten P Γ d κs bs xs rest → got xs rest ≡ got xs′ rest′
+  same-all : (κs : List Kind) (bs : List ℕ) (xs : Args) (rest : List ℕ) (xs′ : Args) (rest′ : List ℕ)
+      → AllWritten P Γ d κs bs xs rest → got xs rest ≡ got xs′ rest′
       → AllWritten P Γ d κs bs xs′ rest′
   same-all κs bs xs rest xs′ rest′ w q = let same = got-inv q in rw (same .0, same .1) w
 
@@ -176,7 +183,8 @@ module _ (P : Program) (Γ : List Kind) (d : ℕ) where
   unfolding encodeArgs depthAll
   none-written bs = (refl, omega arith, refl)
 
-  arg-written : (κ : Kind) (κs : List Kind) (bs : List ℕ) (e : Expr) (r : List ℕ) (xs : Args) (rest : List ℕ) → Written P Γ d κ bs e r → AllWritten P Γ d κs r xs rest
+  arg-written : (κ : Kind) (κs : List Kind) (bs : List ℕ) (e : Expr) (r : List ℕ) (xs : Args) (rest : List ℕ)
+      → Written P Γ d κ bs e r → AllWritten P Γ d κs r xs rest
       → AllWritten P Γ d (κ ∷ κs) bs (arg e xs) rest
   unfolding encodeArgs depthAll
   arg-written κ κs bs e r xs rest u w = (rw (u .0, w .0) (simp append-assoc), omega (arith, u .1, w .1), (κ, κs, refl, u .2, w .2))
@@ -200,30 +208,35 @@ module _ (P : Program) (H : List Header) (of-program : Heads P H) (Γ : List Kin
         second e r p more (by ys s p′ l) =
             same-all P Γ d (κ ∷ κs) bs (arg e ys) s xs rest (arg-written P Γ d κ κs bs e r ys s (sound κ bs e r p) (more r ys s p′)) l
 
-        first : Rest → Onward (read κ bs) (λ e r. onward (argsFrom read κs r) (λ ys s. got (arg e ys) s)) xs rest → AllWritten P Γ d (κ ∷ κs) bs xs rest
+        first : Rest → Onward (read κ bs) (λ e r. onward (argsFrom read κs r) (λ ys s. got (arg e ys) s)) xs rest
+            → AllWritten P Γ d (κ ∷ κs) bs xs rest
         first more (by e r p l) = second e r p more (onward-inv (argsFrom read κs r) _ xs rest l)
 
-    param-node : (i : ℕ) (kind : Option Kind) → getElem? Γ i ≡ kind → (κ : Kind) (bs : List ℕ) (e : Expr) (rest : List ℕ) → paramFrom kind κ i bs ≡ got e rest
+    param-node : (i : ℕ) (kind : Option Kind) → getElem? Γ i ≡ kind → (κ : Kind) (bs : List ℕ) (e : Expr) (rest : List ℕ)
+        → paramFrom kind κ i bs ≡ got e rest
         → Written P Γ (suc d) κ ((0x10 + i) ∷ bs) e rest
     param-node i none k κ bs e rest q = absurd (not-got q)
     param-node i (some κ′) k κ bs e rest q =
         let m = demanded-inv κ κ′ _ e rest q in
         same-written P Γ (suc d) κ _ (param i) bs e rest (param-written P Γ d i κ bs (rw (m .0) k)) (m .1)
 
-    call-node : (g : ℕ) (head : Option Header) → getElem? H g ≡ head → (κ : Kind) (bs : List ℕ) (e : Expr) (rest : List ℕ) → callFrom head read κ g bs ≡ got e rest
+    call-node : (g : ℕ) (head : Option Header) → getElem? H g ≡ head → (κ : Kind) (bs : List ℕ) (e : Expr) (rest : List ℕ)
+        → callFrom head read κ g bs ≡ got e rest
         → Written P Γ (suc d) κ ((0x80 + g) ∷ bs) e rest
     call-node g none k κ bs e rest q = absurd (not-got q)
     call-node g (some h) k κ bs e rest q =
         let m = demanded-inv κ (resultKind h) _ e rest q in
         go (m .0) (onward-inv (argsFrom read (paramKinds h) bs) _ e rest (m .1))
       where
-        go : κ ≡ resultKind h → Onward (argsFrom read (paramKinds h) bs) (λ xs r. got (call g xs) r) e rest → Written P Γ (suc d) κ ((0x80 + g) ∷ bs) e rest
+        go : κ ≡ resultKind h → Onward (argsFrom read (paramKinds h) bs) (λ xs r. got (call g xs) r) e rest
+            → Written P Γ (suc d) κ ((0x80 + g) ∷ bs) e rest
         go m (by xs r p l) =
             let w = function-of of-program g h k in
             let all : AllWritten P Γ d (w .0 .params) bs xs r = rw (w .2 .params) (operands (paramKinds h) bs xs r p) in
             same-written P Γ (suc d) κ _ (call g xs) r e rest (call-written P Γ d g (w .0) κ bs xs r (w .1) (m ∙ sym (w .2 .result)) all) l
 
-    op-node : (p : Op) (κ : Kind) (bs : List ℕ) (e : Expr) (rest : List ℕ) → opFrom p read κ bs ≡ got e rest → Written P Γ (suc d) κ (opByte p ∷ bs) e rest
+    op-node : (p : Op) (κ : Kind) (bs : List ℕ) (e : Expr) (rest : List ℕ) → opFrom p read κ bs ≡ got e rest
+        → Written P Γ (suc d) κ (opByte p ∷ bs) e rest
     op-node p κ bs e rest q = let m = demanded-inv κ (opKind p) _ e rest q in go (m .0) (onward-inv (read list bs) _ e rest (m .1))
       where
         go : κ ≡ opKind p → Onward (read list bs) (λ a r. got (op p a) r) e rest → Written P Γ (suc d) κ (opByte p ∷ bs) e rest
@@ -232,19 +245,24 @@ module _ (P : Program) (H : List Header) (of-program : Heads P H) (Γ : List Kin
     if-node : (κ : Kind) (bs : List ℕ) (e : Expr) (rest : List ℕ) → ifFrom read κ bs ≡ got e rest → Written P Γ (suc d) κ (0x23 ∷ bs) e rest
     if-node κ bs e rest q = first (onward-inv (read truth bs) _ e rest q)
       where
-        third : (c : Expr) (r : List ℕ) (a : Expr) (r′ : List ℕ) → Written P Γ d truth bs c r → Written P Γ d κ r a r′ → Onward (read κ r′) (λ b r″. got (ifte c a b) r″) e rest
+        third : (c : Expr) (r : List ℕ) (a : Expr) (r′ : List ℕ) → Written P Γ d truth bs c r → Written P Γ d κ r a r′
+            → Onward (read κ r′) (λ b r″. got (ifte c a b) r″) e rest
             → Written P Γ (suc d) κ (0x23 ∷ bs) e rest
-        third c r a r′ u v (by b r″ k l) = same-written P Γ (suc d) κ _ (ifte c a b) r″ e rest (if-written P Γ d κ bs c r a r′ b r″ u v (sound κ r′ b r″ k)) l
+        third c r a r′ u v (by b r″ k l) =
+            same-written P Γ (suc d) κ _ (ifte c a b) r″ e rest (if-written P Γ d κ bs c r a r′ b r″ u v (sound κ r′ b r″ k)) l
 
-        second : (c : Expr) (r : List ℕ) → Written P Γ d truth bs c r → Onward (read κ r) (λ a r′. onward (read κ r′) (λ b r″. got (ifte c a b) r″)) e rest
+        second : (c : Expr) (r : List ℕ) → Written P Γ d truth bs c r
+            → Onward (read κ r) (λ a r′. onward (read κ r′) (λ b r″. got (ifte c a b) r″)) e rest
             → Written P Γ (suc d) κ (0x23 ∷ bs) e rest
         second c r u (by a r′ k l) = third c r a r′ u (sound κ r a r′ k) (onward-inv (read κ r′) _ e rest l)
 
-        first : Onward (read truth bs) (λ c r. onward (read κ r) (λ a r′. onward (read κ r′) (λ b r″. got (ifte c a b) r″))) e rest → Written P Γ (suc d) κ (0x23 ∷ bs) e rest
+        first : Onward (read truth bs) (λ c r. onward (read κ r) (λ a r′. onward (read κ r′) (λ b r″. got (ifte c a b) r″))) e rest
+            → Written P Γ (suc d) κ (0x23 ∷ bs) e rest
         first (by c r k l) = second c r (sound truth bs c r k) (onward-inv (read κ r) _ e rest l)
 
     -- a node without operands
-    leaf : (e₀ : Expr) (κ kind : Kind) (bs : List ℕ) (e : Expr) (rest : List ℕ) → (κ ≡ kind → Written P Γ (suc d) κ (encodeExpr e₀ ++ bs) e₀ bs) → demanded κ kind (got e₀ bs) ≡ got e rest
+    leaf : (e₀ : Expr) (κ kind : Kind) (bs : List ℕ) (e : Expr) (rest : List ℕ)
+        → (κ ≡ kind → Written P Γ (suc d) κ (encodeExpr e₀ ++ bs) e₀ bs) → demanded κ kind (got e₀ bs) ≡ got e rest
         → Written P Γ (suc d) κ (encodeExpr e₀ ++ bs) e rest
     leaf e₀ κ kind bs e rest made q = let m = demanded-inv κ kind _ e rest q in same-written P Γ (suc d) κ _ e₀ bs e rest (made (m .0)) (m .1)
 
@@ -271,5 +289,6 @@ module _ (P : Program) (H : List Header) (of-program : Heads P H) (Γ : List Kin
   expr-written (suc d) κ (b ∷ bs) e rest q =
       node-written d (λ κ′ r. exprFrom H Γ d κ′ r) (λ κ′ r x s p. expr-written d κ′ r x s p) (nodeOf b) b (node-inv b (nodeOf b) refl) κ bs e rest q
 
-  pub args-written : (d : ℕ) (κs : List Kind) (bs : List ℕ) (xs : Args) (rest : List ℕ) → argsFrom (λ κ r. exprFrom H Γ d κ r) κs bs ≡ got xs rest → AllWritten P Γ d κs bs xs rest
+  pub args-written : (d : ℕ) (κs : List Kind) (bs : List ℕ) (xs : Args) (rest : List ℕ)
+      → argsFrom (λ κ r. exprFrom H Γ d κ r) κs bs ≡ got xs rest → AllWritten P Γ d κs bs xs rest
   args-written d κs bs xs rest q = operands d (λ κ r. exprFrom H Γ d κ r) (λ κ r e s p. expr-written d κ r e s p) κs bs xs rest q

@@ -5,18 +5,19 @@
 --   functions-read         and are read as those functions
 --   functions-inv          functions that are read: their bytes, within the limits and well-kinded
 use mathlib.Core.Path.{_≡_, refl, sym, ap, _∙_, subst}
-use mathlib.Core.Bool.{Bool, true, false}
+use mathlib.Core.Bool.{Bool, true, false, cond}
 use mathlib.Core.List.{List, [], _∷_, _++_, map, append-assoc, append-nil}
 use mathlib.Core.Option.{some}
-use Prim.Native.Nat.{ℕ, zero, suc, _+_, _*_, _-_, _/_, _%_, _<_, _≤_}
+use Prim.Native.Nat.{ℕ, zero, suc, _+_, _-_, _<_, _≤_}
 use native.Mathlib.Omega.{arith}
 use lib.Dec.{eqb, ltb}
-use lib.ListN.{length, getElem?, take, drop, length-append, take-append-drop}
+use lib.ListN.{length, getElem?, getD, take, drop, length-append, take-append-drop}
 use lib.Seq.{take-append-seam, drop-append-seam, getD-drop, length-take-le}
 use borrow.Author.Tests.{ne-eqb, le-ltb, ltb-false}
 use Rattle.refusal.specs.declared.Refusal.{Refusal}
+use Rattle.encoding.specs.{lowFirst, fromLow}
+use Rattle.encoding.proofs.Low.{from-low, low-from}
 use Rattle.semantics.specs.Language.{Expr, constant, empty, param, op, ifte, call, Function, Program, Meets, WellKinded}
-use Rattle.semantics.specs.Table.{pick}
 use Rattle.rule.specs.declared.Header.{Header}
 use Rattle.rule.specs.declared.HeaderRead.{HeaderRead}
 use Rattle.rule.specs.declared.HeaderRead.the-variants.{Found, Refused}
@@ -48,28 +49,29 @@ expr-bytes (ifte c a b) = omega arith
 expr-bytes (call g xs) = omega arith
 
 length-passes : (size remains : ℕ) → 0 < size → size ≤ mostBody → size ≤ remains → lengthFault size remains ≡ false
-length-passes size remains low most fits = let nonzero : eqb size 0 ≡ false = ne-eqb size 0 (λ e. omega arith) in simp (nonzero, le-ltb _ _ most, le-ltb _ _ fits)
+length-passes size remains low most fits =
+    let nonzero : eqb size 0 ≡ false = ne-eqb size 0 (λ e. omega arith) in simp (nonzero, le-ltb _ _ most, le-ltb _ _ fits)
 
-header-passes : (a k l h : ℕ) (bs : List ℕ) → kindsFault a k ≡ false → lengthFault (l + 256 * h) (length bs) ≡ false
-    → headerOf (a ∷ k ∷ l ∷ h ∷ bs) ≡ Found (record { params = a; kinds = k; length = l + 256 * h })
-unfolding headerOf
-header-passes a k l h bs p q =
+header-passes : (a k size : ℕ) (bs : List ℕ) → kindsFault a k ≡ false → size < 65536 → lengthFault size (length bs) ≡ false
+    → headerOf (a ∷ k ∷ lowFirst 2 size ++ bs) ≡ Found (record { params = a; kinds = k; length = size })
+unfolding headerOf lowFirst
+header-passes a k size bs p below q =
     let long : ltb (suc (suc (suc (suc (length bs))))) 4 ≡ false = le-ltb (suc (suc (suc (suc (length bs))))) 4 (omega arith) in
     let four : suc (suc (suc (suc (length bs)))) - 4 ≡ length bs = omega arith in
-    rw (long, p, four, q)
+    rw (long, p, four, from-low 2 size below, q)
 
 header-read : (f : Function) (rest : List ℕ) → Fits f → headerOf (encodeFunction f ++ rest) ≡ Found (headerFor f)
-unfolding encodeFunction
+unfolding encodeFunction lowFirst
 header-read f rest fit =
     let body = encodeExpr (f .body) in
     let size = length body in
-    let whole : size % 256 + 256 * (size / 256) ≡ size = omega arith in
     let fits : size ≤ length (body ++ rest) = omega (arith, length-append body rest) in
     let right = length-passes size (length (body ++ rest)) (expr-bytes (f .body)) (fit .body) fits in
-    rw whole at (header-passes (length (f .params)) (kindsByte (f .params) (f .result)) (size % 256) (size / 256) (body ++ rest) (kinds-sound (f .params) (f .result) (fit .params)) (rw whole right))
+    header-passes (length (f .params)) (kindsByte (f .params) (f .result)) size (body ++ rest)
+    (kinds-sound (f .params) (f .result) (fit .params)) (omega (arith, fit .body)) right
 
 raw-read : (f : Function) (rest : List ℕ) → Fits f → rawFrom (headerOf (encodeFunction f ++ rest)) (encodeFunction f ++ rest) ≡ got (rawFor f) rest
-unfolding encodeFunction
+unfolding encodeFunction lowFirst
 raw-read f rest fit = rw (header-read f rest fit, take-append-seam (encodeExpr (f .body)) rest, drop-append-seam (encodeExpr (f .body)) rest)
 
 pub raws-read : (P : Program) (rest : List ℕ) → ((g : ℕ) (f : Function) → getElem? P g ≡ some f → Fits f)
@@ -77,7 +79,11 @@ pub raws-read : (P : Program) (rest : List ℕ) → ((g : ℕ) (f : Function) �
 unfolding rawsFrom encodeFunctions
 raws-read [] rest fit = refl
 raws-read (f ∷ P) rest fit =
-    rw (append-assoc (encodeFunction f) (encodeFunctions P) rest, raw-read f (encodeFunctions P ++ rest) (fit zero f refl), raws-read P rest (λ g x e. fit (suc g) x e))
+    rw (
+      append-assoc (encodeFunction f) (encodeFunctions P) rest,
+      raw-read f (encodeFunctions P ++ rest) (fit zero f refl),
+      raws-read P rest (λ g x e. fit (suc g) x e),
+    )
 
 head-for : (f : Function) → Fits f → Head f (headerFor f)
 head-for f fit = let back = kinds-back (f .params) (f .result) (fit .params) in record { params = sym (back .0); result = sym (back .1) }
@@ -87,7 +93,8 @@ heads-for [] fit = no-heads
 heads-for (f ∷ P) fit = one-head (head-for f (fit zero f refl)) (heads-for P (λ g x e. fit (suc g) x e))
 
 -- a body that is read whole at its header
-whole : (H : List Header) (x : Raw) (f : Function) → Head f (x .header) → exprFrom H (f .params) mostDepth (f .result) (x .body) ≡ got (f .body) [] → functionFrom H x ≡ got f []
+whole : (H : List Header) (x : Raw) (f : Function) → Head f (x .header)
+    → exprFrom H (f .params) mostDepth (f .result) (x .body) ≡ got (f .body) [] → functionFrom H x ≡ got f []
 whole H x f h reading = rw (← h .params, ← h .result, reading) (rw (← h .params, ← h .result))
 
 module _ (P : Program) (H : List Header) (of-program : Heads P H) (few : length P ≤ mostFunctions) where
@@ -100,13 +107,23 @@ module _ (P : Program) (H : List Header) (of-program : Heads P H) (few : length 
       → functionsFrom H (map rawFor Q) ≡ got Q []
   unfolding functionsFrom
   functions-read [] good = refl
-  functions-read (f ∷ Q) good = let first = good zero f refl in rw (function-read f (first .0) (first .1), functions-read Q (λ g x e. good (suc g) x e))
+  functions-read (f ∷ Q) good =
+      let first = good zero f refl in rw (function-read f (first .0) (first .1), functions-read Q (λ g x e. good (suc g) x e))
 
 -- ---- Read, then written
 
 -- the bytes of a header and a body
 abbrev encodeRaw : Raw → List ℕ
-encodeRaw x = x .header .params ∷ x .header .kinds ∷ x .header .length % 256 ∷ x .header .length / 256 ∷ x .body
+encodeRaw x = x .header .params ∷ x .header .kinds ∷ lowFirst 2 (x .header .length) ++ x .body
+
+-- two bytes are written as they were read
+two-back : (l m : ℕ) → l < 256 → m < 256 → lowFirst 2 (fromLow (l ∷ m ∷ [])) ≡ l ∷ m ∷ []
+two-back l m low high = low-from (l ∷ m ∷ []) are
+  where
+    are : (i : ℕ) → getD (l ∷ m ∷ []) i 0 < 256
+    are zero = low
+    are (suc zero) = high
+    are (suc (suc i)) = omega arith
 
 -- what is known of a header that is found, and of its body
 record Sound (x : Raw) : Type 0 where
@@ -114,7 +131,8 @@ record Sound (x : Raw) : Type 0 where
   size : length (x .body) ≡ x .header .length
   most : x .header .length ≤ mostBody
 
-found-inv : (t : Bool) (f : Refusal) (h : HeaderRead) (bs : List ℕ) (x : Raw) (r : List ℕ) → rawFrom (pick t (Refused f) h) bs ≡ got x r → (t ≡ false) × (rawFrom h bs ≡ got x r)
+found-inv : (t : Bool) (f : Refusal) (h : HeaderRead) (bs : List ℕ) (x : Raw) (r : List ℕ)
+    → rawFrom (cond t (Refused f) h) bs ≡ got x r → (t ≡ false) × (rawFrom h bs ≡ got x r)
 found-inv true f h bs x r q = absurd (not-got q)
 found-inv false f h bs x r q = (refl, q)
 
@@ -123,14 +141,15 @@ abbrev rawAt : ℕ → ℕ → ℕ → List ℕ → Raw
 rawAt a k size bs = record { header = record { params = a; kinds = k; length = size }; body = take size bs }
 
 raw-inv : (a k l m : ℕ) (bs : List ℕ) (x : Raw) (r : List ℕ) → rawFrom (headerOf (a ∷ k ∷ l ∷ m ∷ bs)) (a ∷ k ∷ l ∷ m ∷ bs) ≡ got x r
-    → (kindsFault a k ≡ false) × (lengthFault (l + 256 * m) (length bs) ≡ false) × (got (rawAt a k (l + 256 * m) bs) (drop (l + 256 * m) bs) ≡ got x r)
+    → (kindsFault a k ≡ false) × (lengthFault (fromLow (l ∷ m ∷ [])) (length bs) ≡ false)
+    × (got (rawAt a k (fromLow (l ∷ m ∷ [])) bs) (drop (fromLow (l ∷ m ∷ [])) bs) ≡ got x r)
 unfolding headerOf
 raw-inv a k l m bs x r q =
     let all = a ∷ k ∷ l ∷ m ∷ bs in
     let four : suc (suc (suc (suc (length bs)))) - 4 ≡ length bs = omega arith in
     let long = found-inv (ltb (length all) 4) _ _ all x r q in
     let kinds = found-inv (kindsFault a k) _ _ all x r (long .1) in
-    let size = found-inv (lengthFault (l + 256 * m) (length all - 4)) _ _ all x r (kinds .1) in
+    let size = found-inv (lengthFault (fromLow (l ∷ m ∷ [])) (length all - 4)) _ _ all x r (kinds .1) in
     (kinds .0, rw four at (size .0), size .1)
 
 length-limits : (size remains : ℕ) → lengthFault size remains ≡ false → (size ≤ mostBody) × (size ≤ remains)
@@ -153,10 +172,9 @@ raw-written (a ∷ k ∷ l ∷ []) x r are q = absurd (not-got q)
 raw-written (a ∷ k ∷ l ∷ m ∷ bs) x r are q =
     let w = raw-inv a k l m bs x r q in
     let same = got-inv (w .2) in
-    let size = l + 256 * m in
-    let low : size % 256 ≡ l = omega (arith, are 2) in
-    let high : size / 256 ≡ m = omega (arith, are 2) in
-    let split : a ∷ k ∷ l ∷ m ∷ bs ≡ encodeRaw (rawAt a k size bs) ++ drop size bs = rw (low, high, take-append-drop size bs) in
+    let size = fromLow (l ∷ m ∷ []) in
+    let bytes : lowFirst 2 size ≡ l ∷ m ∷ [] = two-back l m (are 2) (are 3) in
+    let split : a ∷ k ∷ l ∷ m ∷ bs ≡ encodeRaw (rawAt a k size bs) ++ drop size bs = rw (bytes, take-append-drop size bs) in
     rw (same .0, same .1) (split, raw-sound a k size bs (w .0) (w .1), bytes-drop size bs (λ i. are (suc (suc (suc (suc i))))))
 
 -- bytes that are headers with their bodies, and r after them
@@ -172,14 +190,16 @@ raws-written (suc n) bs xs r are q = first (λ s ys u. raws-written n s ys u) (o
     Rest : Type 0
     Rest = (s : List ℕ) (ys : List Raw) (u : List ℕ) → AreBytes s → rawsFrom n s ≡ got ys u → (length ys ≡ n) × RawsAt u ys s
 
-    second : (x : Raw) (s : List ℕ) → rawFrom (headerOf bs) bs ≡ got x s → Rest → Onward (rawsFrom n s) (λ ys u. got (x ∷ ys) u) xs r → (length xs ≡ suc n) × RawsAt r xs bs
+    second : (x : Raw) (s : List ℕ) → rawFrom (headerOf bs) bs ≡ got x s → Rest
+        → Onward (rawsFrom n s) (λ ys u. got (x ∷ ys) u) xs r → (length xs ≡ suc n) × RawsAt r xs bs
     second x s p more (by ys u p′ l) =
         let same = got-inv l in
         let w = raw-written bs x s are p in
         let v = more s ys u (w .2) p′ in
         rw (same .0, same .1) (ap suc (v .0), one-raw (w .1) (w .0) (v .1))
 
-    first : Rest → Onward (rawFrom (headerOf bs) bs) (λ x s. onward (rawsFrom n s) (λ ys u. got (x ∷ ys) u)) xs r → (length xs ≡ suc n) × RawsAt r xs bs
+    first : Rest → Onward (rawFrom (headerOf bs) bs) (λ x s. onward (rawsFrom n s) (λ ys u. got (x ∷ ys) u)) xs r
+        → (length xs ≡ suc n) × RawsAt r xs bs
     first more (by x s p l) = second x s p more (onward-inv (rawsFrom n s) _ xs r l)
 
 -- function by function: it has the header that was found, and its body was read whole
@@ -203,7 +223,8 @@ bodies-read H (x ∷ xs) P r q = first (λ Q s. bodies-read H xs Q s) (onward-in
     Rest : Type 0
     Rest = (Q : Program) (s : List ℕ) → functionsFrom H xs ≡ got Q s → Bodies H xs Q × (s ≡ [])
 
-    second : (f : Function) (s : List ℕ) → functionFrom H x ≡ got f s → Rest → Onward (functionsFrom H xs) (λ Q u. got (f ∷ Q) u) P r → Bodies H (x ∷ xs) P × (r ≡ [])
+    second : (f : Function) (s : List ℕ) → functionFrom H x ≡ got f s → Rest
+        → Onward (functionsFrom H xs) (λ Q u. got (f ∷ Q) u) P r → Bodies H (x ∷ xs) P × (r ≡ [])
     second f s p more (by Q u p′ l) =
         let same = got-inv l in
         let w = body-read H x _ refl f s p in
@@ -227,9 +248,12 @@ function-written : (x : Raw) (f : Function) → Sound x → Head f (x .header) �
 unfolding encodeFunction
 function-written x f s h e deep =
     let params : length (f .params) ≡ x .header .params = ap length (h .params) ∙ length-kinds (x .header .kinds) 0 (x .header .params) in
-    let kinds : kindsByte (f .params) (f .result) ≡ x .header .kinds = rw (h .params, h .result) (kinds-again (x .header .params) (x .header .kinds) (s .kinds)) in
-    let size : length (encodeExpr (f .body)) ≡ x .header .length = ap length (sym e) ∙ s .size in
-    (rw (params, kinds, size, e), record { params = rw params (kinds-few (x .header .params) (x .header .kinds) (s .kinds)); body = rw size (s .most); deep = deep })
+    let kinds : kindsByte (f .params) (f .result) ≡ x .header .kinds =
+    rw (h .params, h .result) (kinds-again (x .header .params) (x .header .kinds) (s .kinds)) in
+    let size : length (encodeExpr (f .body)) ≡ x .header .length = ap length (sym e) ∙ s .size in (
+      rw (params, kinds, size, e),
+      record { params = rw params (kinds-few (x .header .params) (x .header .kinds) (s .kinds)); body = rw size (s .most); deep = deep },
+    )
 
 -- what holds of a function and of each after it
 each : (Good : Function → Type 0) (f : Function) (P : Program) → Good f → ((g : ℕ) (x : Function) → getElem? P g ≡ some x → Good x)
@@ -246,7 +270,10 @@ module _ (P : Program) (H : List Header) (of-program : Heads P H) where
       let w = expr-written P H of-program (f .params) mostDepth (f .result) (x .body) (f .body) [] p in
       let v = function-written x f s h (w .0 ∙ append-nil (encodeExpr (f .body))) (w .1) in
       let rest = functions-written more bodies in
-      let bytes = ap (λ (l : List ℕ). l ++ bs′) (v .0) ∙ ap (λ (l : List ℕ). encodeFunction f ++ l) (rest .0) ∙ sym (append-assoc (encodeFunction f) (encodeFunctions Q) r) in
+      let bytes =
+      ap (λ (l : List ℕ). l ++ bs′) (v .0)
+      ∙ ap (λ (l : List ℕ). encodeFunction f ++ l) (rest .0)
+      ∙ sym (append-assoc (encodeFunction f) (encodeFunctions Q) r) in
       (split ∙ bytes, each (λ x. Fits x × Meets P (x .params) (x .result) (x .body)) f Q (v .1, w .2) (rest .1))
 
 -- what is known of the functions that n headers and their bodies, at the front of bs, are read as

@@ -19,12 +19,12 @@ use Rattle.refusal.specs.declared.Check.the-variants.{Passed, Refused}
 use Rattle.refusal.proofs.Numbers.{refused-same}
 use Rattle.refusal.proofs.Numbers as numbers
 use Rattle.semantics.specs.Language.{Program}
-use Rattle.rule.specs.declared.Layout.{Layout}
-use Rattle.rule.specs.declared.Checked.{Checked}
+use Rattle.rule.specs.declared.Outline.{Outline}
+use Rattle.rule.specs.declared.Judged.{Judged}
 use Rattle.rule.specs.declared.functions.Scan.{Scan}
 use Rattle.rule.specs.Reading.{Parsed, got, refused, onward, Raw, rawsFrom, headers, mainFirst, functionsFrom, bodiesFrom, checkFrom}
-use Rattle.rule.specs.Layout.{checkedFrom}
-use Rattle.rule.specs.Walk.{Counted, Placed, rawLayout, scanFrom, mainBits, bodiesAt, frameAt}
+use Rattle.rule.specs.Outline.{judgedFrom}
+use Rattle.rule.specs.Walk.{Counted, Placed, rawOutline, scanFrom, mainBits, bodiesAt, frameAt}
 use Rattle.rule.proofs.CheckMeaning.{CheckMeans, check-means}
 
 -- headers that were read: none was refused
@@ -32,17 +32,17 @@ pub record Read (bytes : List ℕ) (count : ℕ) (scan : Scan) : Type 0 where
   pub xs : List Raw
   pub rest : List ℕ
   pub raws : rawsFrom count (drop 1 bytes) ≡ got xs rest
-  pub layout : scan .layout ≡ rawLayout xs
+  pub outline : scan .outline ≡ rawOutline xs
   pub end : scan .end ≡ length bytes - length rest
   pub means : CheckMeans bytes count xs rest
 
 module _ (bytes : List ℕ) (count : ℕ) (scan : Scan) (e : scan ≡ scanFrom (length bytes) (rawsFrom count (drop 1 bytes))) where
-  pub scan-stopped : {f : Refusal} → scan .check ≡ Refused f → checkedFrom (onward (rawsFrom count (drop 1 bytes)) bodiesFrom) ≡ checkedFrom (refused f)
+  pub scan-stopped : {f : Refusal} → scan .check ≡ Refused f → judgedFrom (onward (rawsFrom count (drop 1 bytes)) bodiesFrom) ≡ judgedFrom (refused f)
   scan-stopped {f} q = go (rawsFrom count (drop 1 bytes)) (ap (λ (s : Scan). s .check) (sym e) ∙ q)
     where
-      go : (p : Parsed (List Raw)) → scanFrom (length bytes) p .check ≡ Refused f → checkedFrom (onward p bodiesFrom) ≡ checkedFrom (refused f)
+      go : (p : Parsed (List Raw)) → scanFrom (length bytes) p .check ≡ Refused f → judgedFrom (onward p bodiesFrom) ≡ judgedFrom (refused f)
       go (got xs rest) q = absurd (numbers.refused (sym q))
-      go (refused g) q = ap (λ (x : Refusal). checkedFrom (refused x)) (refused-same q)
+      go (refused g) q = ap (λ (x : Refusal). judgedFrom (refused x)) (refused-same q)
 
   pub scan-read : Counted bytes count → scan .check ≡ Passed → Read bytes count scan
   scan-read c q = go (rawsFrom count (drop 1 bytes)) refl
@@ -54,14 +54,15 @@ module _ (bytes : List ℕ) (count : ℕ) (scan : Scan) (e : scan ≡ scanFrom (
             xs = xs;
             rest = rest;
             raws = r;
-            layout = ap (λ (x : Scan). x .layout) s;
+            outline = ap (λ (x : Scan). x .outline) s;
             end = ap (λ (x : Scan). x .end) s;
             means = check-means bytes count xs rest (c .few) (c .some) (c .short) r;
           }
       go (refused f) r = absurd (numbers.refused (sym (ap (λ (x : Scan). x .check) (e ∙ ap (scanFrom (length bytes)) r)) ∙ q))
 
 module _ {bytes : List ℕ} {count : ℕ} {scan : Scan} (r : Read bytes count scan) where
-  pub bytes-after : scan .end < length bytes → checkedFrom (onward (rawsFrom count (drop 1 bytes)) bodiesFrom) ≡ checkedFrom (refused BytesAfterFunctions)
+  pub bytes-after : scan .end < length bytes
+      → judgedFrom (onward (rawsFrom count (drop 1 bytes)) bodiesFrom) ≡ judgedFrom (refused BytesAfterFunctions)
   bytes-after h =
       let some : length (r .rest) ≡ 0 → ⊥ = λ z. omega (arith, r .end) in
       rw (r .raws, ne-eqb _ _ some)
@@ -70,35 +71,40 @@ module _ {bytes : List ℕ} {count : ℕ} {scan : Scan} (r : Read bytes count sc
     none : eqb (length (r .rest)) 0 ≡ true
     none = let all : length (r .rest) ≡ 0 = omega (arith, r .end, r .means .after, r .means .within) in eq-eqb _ _ all
 
-    pub main-bits : {b : Bool} → b ≡ mainBits (getD (scan .layout .params) 0 0) (getD (scan .layout .kinds) 0 0) → b ≡ mainFirst (headers (r .xs))
-    main-bits q = q ∙ ap (λ (l : Layout). mainBits (getD (l .params) 0 0) (getD (l .kinds) 0 0)) (r .layout) ∙ r .means .main
+    pub main-bits : {b : Bool} → b ≡ mainBits (getD (scan .outline .params) 0 0) (getD (scan .outline .kinds) 0 0) → b ≡ mainFirst (headers (r .xs))
+    main-bits q = q ∙ ap (λ (l : Outline). mainBits (getD (l .params) 0 0) (getD (l .kinds) 0 0)) (r .outline) ∙ r .means .main
 
-    pub wrong-main : mainFirst (headers (r .xs)) ≡ false → checkedFrom (onward (rawsFrom count (drop 1 bytes)) bodiesFrom) ≡ checkedFrom (refused MainKind)
+    pub wrong-main : mainFirst (headers (r .xs)) ≡ false
+        → judgedFrom (onward (rawsFrom count (drop 1 bytes)) bodiesFrom) ≡ judgedFrom (refused MainKind)
     wrong-main m = rw (r .raws, none, m)
 
     bodies-left : mainFirst (headers (r .xs)) ≡ true → onward (rawsFrom count (drop 1 bytes)) bodiesFrom ≡ functionsFrom (headers (r .xs)) (r .xs)
     bodies-left m = rw (r .raws, none, m)
 
-    bodies-are : {k : Check} → k ≡ bodiesAt (frameAt bytes count (scan .layout .params) (scan .layout .kinds) (scan .layout .starts) (scan .layout .ends)) count 0
+    bodies-are : {k : Check}
+        → k ≡ bodiesAt (frameAt bytes count (scan .outline .params) (scan .outline .kinds) (scan .outline .starts) (scan .outline .ends)) count 0
         → k ≡ checkFrom (functionsFrom (headers (r .xs)) (r .xs))
-    bodies-are q = q ∙ ap (λ (l : Layout). bodiesAt (frameAt bytes count (l .params) (l .kinds) (l .starts) (l .ends)) count 0) (r .layout) ∙ r .means .bodies
+    bodies-are q =
+        q ∙ ap (λ (l : Outline). bodiesAt (frameAt bytes count (l .params) (l .kinds) (l .starts) (l .ends)) count 0) (r .outline) ∙ r .means .bodies
 
-    pub bodies-placed : Placed (length bytes) count (scan .layout .params) (scan .layout .starts) (scan .layout .ends)
-    bodies-placed = subst (λ (l : Layout). Placed (length bytes) count (l .params) (l .starts) (l .ends)) (sym (r .layout)) (r .means .placed)
+    pub bodies-placed : Placed (length bytes) count (scan .outline .params) (scan .outline .starts) (scan .outline .ends)
+    bodies-placed = subst (λ (l : Outline). Placed (length bytes) count (l .params) (l .starts) (l .ends)) (sym (r .outline)) (r .means .placed)
 
     module _ (m : mainFirst (headers (r .xs)) ≡ true) {k : Check}
-        (q : k ≡ bodiesAt (frameAt bytes count (scan .layout .params) (scan .layout .kinds) (scan .layout .starts) (scan .layout .ends)) count 0) where
-      pub bodies-refused : {f : Refusal} → k ≡ Refused f → checkedFrom (onward (rawsFrom count (drop 1 bytes)) bodiesFrom) ≡ checkedFrom (refused f)
-      bodies-refused {f} e = ap checkedFrom (bodies-left m) ∙ go (functionsFrom (headers (r .xs)) (r .xs)) (sym (bodies-are q) ∙ e)
-        where
-          go : (p : Parsed Program) → checkFrom p ≡ Refused f → checkedFrom p ≡ checkedFrom (refused f)
-          go (got P rest) z = absurd (numbers.refused (sym z))
-          go (refused g) z = ap (λ (x : Refusal). checkedFrom (refused x)) (refused-same z)
+        (q : k ≡ bodiesAt (frameAt bytes count (scan .outline .params) (scan .outline .kinds) (scan .outline .starts) (scan .outline .ends)) count 0)
+      where
+        pub bodies-refused : {f : Refusal} → k ≡ Refused f → judgedFrom (onward (rawsFrom count (drop 1 bytes)) bodiesFrom) ≡ judgedFrom (refused f)
+        bodies-refused {f} e = ap judgedFrom (bodies-left m) ∙ go (functionsFrom (headers (r .xs)) (r .xs)) (sym (bodies-are q) ∙ e)
+          where
+            go : (p : Parsed Program) → checkFrom p ≡ Refused f → judgedFrom p ≡ judgedFrom (refused f)
+            go (got P rest) z = absurd (numbers.refused (sym z))
+            go (refused g) z = ap (λ (x : Refusal). judgedFrom (refused x)) (refused-same z)
 
-      pub all-passed : k ≡ Passed → _≡_ {A = Checked} (record { check = Passed; layout = scan .layout }) (checkedFrom (onward (rawsFrom count (drop 1 bytes)) bodiesFrom))
-      all-passed e = go (functionsFrom (headers (r .xs)) (r .xs)) refl (sym (bodies-are q) ∙ e) ∙ sym (ap checkedFrom (bodies-left m))
-        where
-          go : (p : Parsed Program) → functionsFrom (headers (r .xs)) (r .xs) ≡ p → checkFrom p ≡ Passed
-              → _≡_ {A = Checked} (record { check = Passed; layout = scan .layout }) (checkedFrom p)
-          go (got P rest) w z = λ i. record { check = Passed; layout = (r .layout ∙ r .means .layout P rest w) i }
-          go (refused g) w z = absurd (numbers.refused z)
+        pub all-passed : k ≡ Passed
+            → _≡_ {A = Judged} (record { check = Passed; outline = scan .outline }) (judgedFrom (onward (rawsFrom count (drop 1 bytes)) bodiesFrom))
+        all-passed e = go (functionsFrom (headers (r .xs)) (r .xs)) refl (sym (bodies-are q) ∙ e) ∙ sym (ap judgedFrom (bodies-left m))
+          where
+            go : (p : Parsed Program) → functionsFrom (headers (r .xs)) (r .xs) ≡ p → checkFrom p ≡ Passed
+                → _≡_ {A = Judged} (record { check = Passed; outline = scan .outline }) (judgedFrom p)
+            go (got P rest) w z = λ i. record { check = Passed; outline = (r .outline ∙ r .means .outline P rest w) i }
+            go (refused g) w z = absurd (numbers.refused z)

@@ -6,7 +6,7 @@
 --   kinds-again            a kinds byte that is not refused is made of the kinds that are read from it
 --   length-kinds           as many kinds are read as asked for
 use mathlib.Core.Path.{_≡_, refl, sym, ap, _∙_}
-use mathlib.Core.Bool.{Bool, true, false, _||_}
+use mathlib.Core.Bool.{Bool, true, false, _||_, cond}
 use mathlib.Core.List.{List, [], _∷_, _++_, map, append-assoc}
 use Prim.Native.Nat.{ℕ, zero, suc, _+_, _*_, _-_, _/_, _%_, _^_, _<_, _≤_}
 use native.Mathlib.Nat.{mod-lt}
@@ -18,7 +18,6 @@ use borrow.Author.Tests.{le-ltb, lt-leb, ltb-false, leb-false}
 use Rattle.trace.specs.{bitOf, digit, binary}
 use Rattle.trace.proofs.Bits.{bit-binary, binary-bound, binary-snoc}
 use Rattle.semantics.specs.Language.{Kind, truth, list}
-use Rattle.semantics.specs.Table.{pick}
 use Rattle.rule.specs.Form.{mostParams, isList, padded, kindsByte}
 use Rattle.rule.specs.Reading.{kindsFault, kindAt, kindsFrom}
 use Rattle.rule.proofs.Tests.{neither}
@@ -31,7 +30,7 @@ length-kinds k i (suc n) = ap suc (length-kinds k (suc i) n)
 
 -- ---- From the kinds to the byte and back
 
-kind-of : (κ : Kind) → pick (isList κ) list truth ≡ κ
+kind-of : (κ : Kind) → cond (isList κ) list truth ≡ κ
 kind-of truth = refl
 kind-of list = refl
 
@@ -74,8 +73,10 @@ module _ (params : List Kind) (result : Kind) (few : length params ≤ mostParam
   kinds-back =
       let zeros = replicate (4 - length (map isList params)) false in
       let all = paramBits params ++ (isList result ∷ []) in
-      let split = append-assoc (map isList params) zeros (isList result ∷ []) in
-      (kinds-among all [] params (zeros ++ (isList result ∷ [])) 0 refl split, kind-at all 4 result (getD-at (paramBits params) (isList result) [] false 4 four))
+      let split = append-assoc (map isList params) zeros (isList result ∷ []) in (
+        kinds-among all [] params (zeros ++ (isList result ∷ [])) 0 refl split,
+        kind-at all 4 result (getD-at (paramBits params) (isList result) [] false 4 four),
+      )
 
   pub kinds-below : kindsByte params result < 32
   unfolding kindsByte
@@ -92,7 +93,8 @@ module _ (params : List Kind) (result : Kind) (few : length params ≤ mostParam
       let same : binary (paramBits params) ≡ binary own = binary-zeros own (4 - length own) in
       let low : binary (paramBits params) < 16 = rw four at (binary-bound (paramBits params)) in
       let bound : binary own < 2 ^ length params = rw (length-map params isList) at (binary-bound own) in
-      let split : binary (paramBits params ++ (isList result ∷ [])) ≡ binary (paramBits params) + digit (isList result) * 16 = rw four at (binary-snoc (paramBits params) (isList result)) in
+      let split : binary (paramBits params ++ (isList result ∷ [])) ≡ binary (paramBits params) + digit (isList result) * 16 =
+      rw four at (binary-snoc (paramBits params) (isList result)) in
       rw (split, low-four (binary (paramBits params)) (isList result) low, same) bound
 
   pub kinds-sound : kindsFault (length params) (kindsByte params result) ≡ false
@@ -100,7 +102,7 @@ module _ (params : List Kind) (result : Kind) (few : length params ≤ mostParam
 
 -- ---- From the byte to the kinds and back
 
-is-list : (b : Bool) → isList (pick b list truth) ≡ b
+is-list : (b : Bool) → isList (cond b list truth) ≡ b
 is-list true = refl
 is-list false = refl
 
@@ -154,7 +156,8 @@ bit-0 k h = omega arith
 
 again : (n k : ℕ) → Limits n k → kindsByte (kindsFrom k 0 n) (kindAt k 4) ≡ k
 unfolding kindsByte padded kindsFrom binary
-again zero k l = omega (arith, digits k (l .below), bit-0 k (l .low), bit-1 k (omega arith), bit-2 k (omega arith), bit-3 k (omega arith), digit-at k 4)
+again zero k l =
+    omega (arith, digits k (l .below), bit-0 k (l .low), bit-1 k (omega arith), bit-2 k (omega arith), bit-3 k (omega arith), digit-at k 4)
 again (suc zero) k l = omega (arith, digits k (l .below), bit-1 k (l .low), bit-2 k (omega arith), bit-3 k (omega arith), digit-at k 0, digit-at k 4)
 again (suc (suc zero)) k l = omega (arith, digits k (l .below), bit-2 k (l .low), bit-3 k (omega arith), digit-at k 0, digit-at k 1, digit-at k 4)
 again (suc (suc (suc zero))) k l = omega (arith, digits k (l .below), bit-3 k (l .low), digit-at k 0, digit-at k 1, digit-at k 2, digit-at k 4)

@@ -7,7 +7,6 @@ pub mod Expressions
 pub mod FunctionBytes
 pub mod Programs
 pub mod Places
-pub mod RowsHold
 pub mod Walking
 pub mod HeaderWays
 pub mod Copying
@@ -16,7 +15,7 @@ pub mod BodyWays
 pub mod Scanning
 pub mod WalkMeaning
 pub mod BodyMeaning
-pub mod LayoutMeaning
+pub mod OutlineMeaning
 pub mod CheckMeaning
 pub mod ProgramWays
 pub mod FunctionWays

@@ -4,13 +4,12 @@
 --   node-param, node-call  what the bytes of parameters and calls stand for
 --   node-inv               a byte that stands for a node is the byte of that node
 use mathlib.Core.Path.{_≡_, refl}
-use mathlib.Core.Bool.{Bool, true, false, _&&_}
+use mathlib.Core.Bool.{Bool, true, false, _&&_, cond}
 use Prim.Native.Nat.{ℕ, suc, _+_, _-_, _<_, _≤_}
 use native.Mathlib.Omega.{arith}
 use lib.Dec.{leb, eqb}
 use borrow.Author.Tests.{eqb-true, leb-true, ne-eqb, le-leb, lt-leb}
 use Rattle.semantics.specs.Language.{Op, hd, tl, null}
-use Rattle.semantics.specs.Table.{pick}
 use Rattle.rule.specs.declared.Node.{Node}
 use Rattle.rule.specs.declared.Node.the-variants as node
 use Rattle.rule.specs.Form.{opByte}
@@ -93,7 +92,7 @@ ByteOf node.Cons b = b ≡ 0x24
 ByteOf (node.Call g) b = (b ≡ 0x80 + g) × (g < 32)
 ByteOf node.Unknown b = Unit {0}
 
-picked : (t : Bool) (m n : Node) (b : ℕ) → (t ≡ true → ByteOf m b) → (t ≡ false → ByteOf n b) → ByteOf (pick t m n) b
+picked : (t : Bool) (m n : Node) (b : ℕ) → (t ≡ true → ByteOf m b) → (t ≡ false → ByteOf n b) → ByteOf (cond t m n) b
 picked true m n b holds fails = holds refl
 picked false m n b holds fails = fails refl
 

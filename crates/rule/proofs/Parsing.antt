@@ -12,7 +12,7 @@ use Prim.Native.Nat.{ℕ}
 use native.Mathlib.Omega.{arith}
 use Rattle.refusal.specs.declared.Refusal.{Refusal}
 use Rattle.semantics.specs.Language.{Kind, truth, list}
-use Rattle.rule.specs.Reading.{Parsed, got, refused, onward, refusedIf, demanded}
+use Rattle.rule.specs.Reading.{Parsed, got, refused, onward, unlessFault, demanded}
 
 -- 0 of a reading, 1 of a refusal
 abbrev verdict : {A : Type 0} → Parsed A → ℕ
@@ -26,7 +26,7 @@ module _ {A : Type 0} where
   pub got-inv : {a b : A} {r s : List ℕ} → got a r ≡ got b s → (b ≡ a) × (s ≡ r)
   got-inv e = (cc, cc)
 
-  pub refused-inv : (t : Bool) (f : Refusal) (p : Parsed A) (a : A) (rest : List ℕ) → refusedIf t f p ≡ got a rest → (t ≡ false) × (p ≡ got a rest)
+  pub refused-inv : (t : Bool) (f : Refusal) (p : Parsed A) (a : A) (rest : List ℕ) → unlessFault t f p ≡ got a rest → (t ≡ false) × (p ≡ got a rest)
   refused-inv true f p a rest e = absurd (not-got e)
   refused-inv false f p a rest e = (refl, e)
 

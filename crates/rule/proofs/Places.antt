@@ -1,31 +1,25 @@
 -- Where the bodies of an accepted program stand:
---   length-starts          each function has a start
 --   body-at                from a function's start on stand the bytes of its body
---   body-within            they end within the program's bytes
-use mathlib.Core.Path.{_≡_, refl, ap}
+use mathlib.Core.Path.{_≡_, refl}
 use mathlib.Core.List.{List, [], _∷_, _++_, append-assoc}
 use mathlib.Core.Option.{some}
-use Prim.Native.Nat.{ℕ, zero, suc, _+_, _≤_}
+use Prim.Native.Nat.{ℕ, zero, suc, _+_}
 use native.Mathlib.Omega.{arith}
-use lib.ListN.{length, getElem?, getD, drop, length-append, length-drop}
+use lib.ListN.{length, getElem?, getD, drop, length-append}
 use lib.Seq.{drop-append-add}
+use Rattle.encoding.specs.{lowFirst}
 use Rattle.semantics.specs.Language.{Function, Program}
 use Rattle.rule.specs.Form.{encodeExpr, encodeFunction, encodeFunctions, encode, Accepted}
-use Rattle.rule.specs.Layout.{startsFrom}
-use Rattle.rule.proofs.FunctionBytes.{expr-bytes}
-
-pub length-starts : (at : ℕ) (P : Program) → length (startsFrom at P) ≡ length P
-unfolding startsFrom
-length-starts at [] = refl
-length-starts at (f ∷ P) = ap suc (length-starts (at + 4 + length (encodeExpr (f .body))) P)
+use Rattle.rule.specs.Outline.{startsFrom}
 
 length-function : (f : Function) → length (encodeFunction f) ≡ 4 + length (encodeExpr (f .body))
-unfolding encodeFunction
+unfolding encodeFunction lowFirst
 length-function f = omega arith
 
 -- the first body, its header standing after other bytes
-first-body : (pre : List ℕ) (f : Function) (P : Program) → drop (length pre + 4) (pre ++ encodeFunctions (f ∷ P)) ≡ encodeExpr (f .body) ++ encodeFunctions P
-unfolding encodeFunctions encodeFunction
+first-body : (pre : List ℕ) (f : Function) (P : Program)
+    → drop (length pre + 4) (pre ++ encodeFunctions (f ∷ P)) ≡ encodeExpr (f .body) ++ encodeFunctions P
+unfolding encodeFunctions encodeFunction lowFirst
 first-body pre f P = drop-append-add pre _ 4
 
 -- functions that stand after other bytes
@@ -44,8 +38,3 @@ module _ (bytes : List ℕ) (P : Program) (a : Accepted bytes P) (g : ℕ) (f : 
   pub body-at : (rest : List ℕ) × (drop (getD (startsFrom 1 P) g 0) bytes ≡ encodeExpr (f .body) ++ rest)
   unfolding encode
   body-at = rw (a .encoded) (body-after P (length P ∷ []) 1 g f refl e)
-
-  pub body-within : getD (startsFrom 1 P) g 0 + length (encodeExpr (f .body)) ≤ length bytes
-  body-within =
-      let s = getD (startsFrom 1 P) g 0 in
-      omega (arith, ap length (body-at .1), length-drop s bytes, length-append (encodeExpr (f .body)) (body-at .0), expr-bytes (f .body))

@@ -12,10 +12,10 @@ use Rattle.refusal.specs.declared.Refusal.{Refusal}
 use Rattle.refusal.specs.declared.Refusal.the-variants.{ProgramLength, FunctionCount}
 use Rattle.refusal.specs.declared.Check.the-variants as check
 use Rattle.semantics.specs.Language.{Program}
-use Rattle.rule.specs.declared.Checked.{Checked}
+use Rattle.rule.specs.declared.Judged.{Judged}
 use Rattle.rule.specs.Form.{mostFunctions, mostBytes}
 use Rattle.rule.specs.Reading.{Parsed, refused, onward, rawsFrom, bodiesFrom, programFrom, programCheck}
-use Rattle.rule.specs.Layout.{layoutOf, layoutFrom, checkedFrom}
+use Rattle.rule.specs.Outline.{outlineOf, outlineFrom, judgedFrom}
 
 module _ (bytes : List ℕ) where
   pub program-empty : length bytes ≡ 0 → programFrom bytes ≡ refused ProgramLength
@@ -41,10 +41,10 @@ module _ (bytes : List ℕ) where
         unfolding programFrom
         program-counted h = simp (ne-eqb _ _ some, le-ltb _ _ short, ne-eqb _ _ one, le-ltb _ _ h)
 
-pub answer-refused : (r : Checked) {f : Refusal} → (r .check ≡ check.Refused f) × (r .layout ≡ layoutOf []) → r ≡ checkedFrom (refused f)
-answer-refused r e = λ i. record { check = e .0 i; layout = e .1 i }
+pub answer-refused : (r : Judged) {f : Refusal} → (r .check ≡ check.Refused f) × (r .outline ≡ outlineOf []) → r ≡ judgedFrom (refused f)
+answer-refused r e = λ i. record { check = e .0 i; outline = e .1 i }
 
-pub answered : (bytes : List ℕ) (r : Checked) {p : Parsed Program} → programFrom bytes ≡ p → r ≡ checkedFrom p
-    → (r .check ≡ programCheck bytes) × (r .layout ≡ layoutFrom (programFrom bytes))
+pub answered : (bytes : List ℕ) (r : Judged) {p : Parsed Program} → programFrom bytes ≡ p → r ≡ judgedFrom p
+    → (r .check ≡ programCheck bytes) × (r .outline ≡ outlineFrom (programFrom bytes))
 unfolding programCheck
-answered bytes r e q = rw e (ap (λ (x : Checked). x .check) q, ap (λ (x : Checked). x .layout) q)
+answered bytes r e q = rw e (ap (λ (x : Judged). x .check) q, ap (λ (x : Judged). x .outline) q)

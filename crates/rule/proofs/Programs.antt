@@ -35,7 +35,8 @@ main-inv (list ∷ κ′ ∷ κs) κ e = let z : _≡_ {A = ℕ} 0 1 = cc in abs
 
 main-found : {P : Program} {H : List Header} → Heads P H → mainFirst H ≡ true → (f : Function) × (getElem? P 0 ≡ some f) × IsMain f
 main-found no-heads e = let z : _≡_ {A = ℕ} 0 1 = cc in absurd (omega arith)
-main-found (one-head {f = f} {h = h} is more) e = let m = main-inv (paramKinds h) (resultKind h) e in (f, refl, record { params = is .params ∙ m .0; result = is .result ∙ m .1 })
+main-found (one-head {f = f} {h = h} is more) e =
+    let m = main-inv (paramKinds h) (resultKind h) e in (f, refl, record { params = is .params ∙ m .0; result = is .result ∙ m .1 })
 
 main-first : {P : Program} {H : List Header} → Heads P H → (f : Function) → getElem? P 0 ≡ some f → IsMain f → mainFirst H ≡ true
 main-first no-heads f e m = let z : _≡_ {A = ℕ} 0 1 = cc in absurd (omega arith)
@@ -95,7 +96,8 @@ read-accepted bytes P rest are q =
     let count = refused-inv (eqb (getD bytes 0 0) 0 || ltb mostFunctions (getD bytes 0 0)) _ _ P rest (size .1) in
     let long = neither (eqb (length bytes) 0) (ltb mostBytes (length bytes)) (size .0) in
     let many = neither (eqb (getD bytes 0 0) 0) (ltb mostFunctions (getD bytes 0 0)) (count .0) in
-    go (eqb-false _ _ (long .0)) (ltb-false _ _ (long .1)) (ltb-false _ _ (many .1)) (onward-inv (rawsFrom (getD bytes 0 0) (drop 1 bytes)) bodiesFrom P rest (count .1))
+    go (eqb-false _ _ (long .0)) (ltb-false _ _ (long .1)) (ltb-false _ _ (many .1))
+    (onward-inv (rawsFrom (getD bytes 0 0) (drop 1 bytes)) bodiesFrom P rest (count .1))
   where
     go : (length bytes ≡ 0 → ⊥) → length bytes ≤ mostBytes → getD bytes 0 0 ≤ mostFunctions
         → Onward (rawsFrom (getD bytes 0 0) (drop 1 bytes)) bodiesFrom P rest → Accepted bytes P × (rest ≡ [])

@@ -1,5 +1,5 @@
 -- Laws of the headers read one after the other:
---   Scanned           some headers have been read: their layout, and what is left to read
+--   Scanned           some headers have been read: their outline, and what is left to read
 --   map-snoc          the images of a list with one more element
 --   scan-refused, scan-passed   what the code answers
 use mathlib.Core.Path.{_≡_, refl, sym, ap, _∙_}
@@ -15,12 +15,12 @@ use Rattle.refusal.specs.declared.Refusal.{Refusal}
 use Rattle.refusal.specs.declared.Check.the-variants as check
 use Rattle.rule.specs.declared.Header.{Header}
 use Rattle.rule.specs.declared.HeaderRead.the-variants.{Found, Refused}
-use Rattle.rule.specs.declared.Layout.{Layout}
+use Rattle.rule.specs.declared.Outline.{Outline}
 use Rattle.rule.specs.declared.functions.Scan.{Scan}
 use Rattle.rule.specs.Form.{mostFunctions, mostBody, padded}
 use Rattle.rule.specs.Reading.{Parsed, got, refused, onward, lengthFault, headerOf, Raw, rawsFrom}
-use Rattle.rule.specs.Layout.{layoutOf}
-use Rattle.rule.specs.Walk.{rawStarts, rawEnds, rawLayout, scanFrom}
+use Rattle.rule.specs.Outline.{outlineOf}
+use Rattle.rule.specs.Walk.{rawStarts, rawEnds, rawOutline, scanFrom}
 use Rattle.rule.proofs.Padded.{set-padded}
 use Rattle.rule.proofs.HeaderWays.{header-is, header-size}
 
@@ -93,7 +93,8 @@ onward-more done x (refused f) = refl
 
 -- the first header, with the bytes from it on
 rest-found : (m : ℕ) (bs : List ℕ) (h : Header) → headerOf bs ≡ Found h
-    → rawsFrom (suc m) bs ≡ onward (rawsFrom m (drop (h .length) (drop 4 bs))) (λ xs r. got (record { header = h; body = take (h .length) (drop 4 bs) } ∷ xs) r)
+    → rawsFrom (suc m) bs
+    ≡ onward (rawsFrom m (drop (h .length) (drop 4 bs))) (λ xs r. got (record { header = h; body = take (h .length) (drop 4 bs) } ∷ xs) r)
 unfolding rawsFrom
 rest-found m bs h e = rw e
 
@@ -106,7 +107,8 @@ stored-next : {m : List ℕ} {i : ℕ} (l l′ : List ℕ) (v : ℕ) → m ≡ p
     → set m i v ≡ padded mostFunctions 0 l′
 stored-next l l′ v e n h q = rw (e, ← n, q) (set-padded mostFunctions 0 l v (rw n h))
 
-pub scanned-start : (bytes : List ℕ) (n : ℕ) → 1 ≤ length bytes → Scanned bytes n (replicate 32 0) (replicate 32 0) (replicate 32 0) (replicate 32 0) 1 0
+pub scanned-start : (bytes : List ℕ) (n : ℕ) → 1 ≤ length bytes
+    → Scanned bytes n (replicate 32 0) (replicate 32 0) (replicate 32 0) (replicate 32 0) 1 0
 unfolding padded rawStarts rawEnds endOf
 scanned-start bytes n h =
     let none : n - 0 ≡ n = omega arith in
@@ -149,33 +151,43 @@ module _ {bytes : List ℕ} {n : ℕ} {ps ks ss es : List ℕ} {at i : ℕ} (u :
       let x : Raw = record { header = h; body = take (h .length) (drop 4 bs) } in
       let more : n - i ≡ suc (n - (i + 1)) = omega arith in
       let full : i < mostFunctions = omega arith in
-      let away : drop (h .length) (drop 4 bs) ≡ drop (at + 4 + h .length) bytes = ap (drop (h .length)) (drop-drop 4 at bytes) ∙ drop-drop (h .length) (at + 4) bytes in
+      let away : drop (h .length) (drop 4 bs) ≡ drop (at + 4 + h .length) bytes =
+      ap (drop (h .length)) (drop-drop 4 at bytes) ∙ drop-drop (h .length) (at + 4) bytes in
       record {
         done = u .done ++ (x ∷ []);
         count = length-append (u .done) (x ∷ []) ∙ ap (λ (k : ℕ). k + 1) (u .count);
         below = omega arith;
         within = next-fits e .1;
         place = ap (λ (p : ℕ). p + 4 + h .length) (u .place) ∙ sym (end-snoc x 1 (u .done));
-        params = stored-next _ _ (h .params) (u .params) (length-map (u .done) (λ (y : Raw). y .header .params) ∙ u .count) full (map-snoc _ (u .done) x);
+        params =
+            stored-next _ _ (h .params) (u .params) (length-map (u .done) (λ (y : Raw). y .header .params) ∙ u .count) full (map-snoc _ (u .done) x);
         kinds = stored-next _ _ (h .kinds) (u .kinds) (length-map (u .done) (λ (y : Raw). y .header .kinds) ∙ u .count) full (map-snoc _ (u .done) x);
-        starts = stored-next _ _ (at + 4) (u .starts) (length-starts 1 (u .done) ∙ u .count) full (starts-snoc x 1 (u .done) ∙ ap (λ (p : ℕ). rawStarts 1 (u .done) ++ ((p + 4) ∷ [])) (sym (u .place)));
-        ends = stored-next _ _ (at + 4 + h .length) (u .ends) (length-ends 1 (u .done) ∙ u .count) full (ends-snoc x 1 (u .done) ∙ ap (λ (p : ℕ). rawEnds 1 (u .done) ++ ((p + 4 + h .length) ∷ [])) (sym (u .place)));
-        rest = (rw (more, rest-found (n - (i + 1)) bs h e, away) at (u .rest)) ∙ onward-more (u .done) x (rawsFrom (n - (i + 1)) (drop (at + 4 + h .length) bytes));
+        starts =
+            stored-next _ _ (at + 4) (u .starts) (length-starts 1 (u .done) ∙ u .count) full
+            (starts-snoc x 1 (u .done) ∙ ap (λ (p : ℕ). rawStarts 1 (u .done) ++ ((p + 4) ∷ [])) (sym (u .place)));
+        ends =
+            stored-next _ _ (at + 4 + h .length) (u .ends) (length-ends 1 (u .done) ∙ u .count) full
+            (ends-snoc x 1 (u .done) ∙ ap (λ (p : ℕ). rawEnds 1 (u .done) ++ ((p + 4 + h .length) ∷ [])) (sym (u .place)));
+        rest =
+            (rw (more, rest-found (n - (i + 1)) bs h e, away) at (u .rest))
+            ∙ onward-more (u .done) x (rawsFrom (n - (i + 1)) (drop (at + 4 + h .length) bytes));
       }
 
 -- what the loop answers
-pub scan-refused : (len : ℕ) {p : Parsed (List Raw)} {f : Refusal} {l : Layout} → p ≡ refused f → l ≡ layoutOf []
-    → _≡_ {A = Scan} (record { check = check.Refused f; layout = l; end = 0 }) (scanFrom len p)
-scan-refused len {f = f} e q = (λ i. record { check = check.Refused f; layout = q i; end = 0 }) ∙ sym (ap (scanFrom len) e)
+pub scan-refused : (len : ℕ) {p : Parsed (List Raw)} {f : Refusal} {l : Outline} → p ≡ refused f → l ≡ outlineOf []
+    → _≡_ {A = Scan} (record { check = check.Refused f; outline = l; end = 0 }) (scanFrom len p)
+scan-refused len {f = f} e q = (λ i. record { check = check.Refused f; outline = q i; end = 0 }) ∙ sym (ap (scanFrom len) e)
 
 module _ {bytes : List ℕ} {n : ℕ} {ps ks ss es : List ℕ} {at i : ℕ} (u : Scanned bytes n ps ks ss es at i) (h : n ≤ i) where
-  scan-layout : _≡_ {A = Layout} (record { functions = n; params = ps; kinds = ks; starts = ss; ends = es }) (rawLayout (u .done))
-  unfolding rawLayout
-  scan-layout =
+  scan-outline : _≡_ {A = Outline} (record { functions = n; params = ps; kinds = ks; starts = ss; ends = es }) (rawOutline (u .done))
+  unfolding rawOutline
+  scan-outline =
       let size : n ≡ length (u .done) = omega (arith, u .count, u .below) in
       λ j. record { functions = size j; params = u .params j; kinds = u .kinds j; starts = u .starts j; ends = u .ends j }
 
-  pub scan-passed : _≡_ {A = Scan} (record { check = check.Passed; layout = record { functions = n; params = ps; kinds = ks; starts = ss; ends = es }; end = at }) (scanFrom (length bytes) (rawsFrom n (drop 1 bytes)))
+  pub scan-passed : _≡_ {A = Scan}
+      (record { check = check.Passed; outline = record { functions = n; params = ps; kinds = ks; starts = ss; ends = es }; end = at })
+      (scanFrom (length bytes) (rawsFrom n (drop 1 bytes)))
   scan-passed =
       let end : at ≡ length bytes - length (drop at bytes) = omega (arith, u .within, length-drop at bytes) in
-      (λ j. record { check = check.Passed; layout = scan-layout j; end = end j }) ∙ sym (ap (scanFrom (length bytes)) (scanned-end u h))
+      (λ j. record { check = check.Passed; outline = scan-outline j; end = end j }) ∙ sym (ap (scanFrom (length bytes)) (scanned-end u h))

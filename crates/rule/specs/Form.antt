@@ -1,11 +1,12 @@
 -- 'Program bytes' of document 01: the limits, the bytes of a program, which bytes are accepted.
-use Prim.Native.Nat.{ℕ, suc, _+_, _-_, _/_, _%_, _<_, _≤_, max}
+use Prim.Native.Nat.{ℕ, suc, _+_, _-_, _<_, _≤_, max}
 use mathlib.Core.Path.{_≡_}
 use mathlib.Core.Bool.{Bool, true, false}
 use mathlib.Core.List.{List, [], _∷_, _++_, map}
 use mathlib.Core.Option.{some}
 use lib.ListN.{length, getElem?, getD, replicate}
 use Rattle.trace.specs.{binary}
+use Rattle.encoding.specs.{lowFirst}
 use Rattle.semantics.specs.Language.{Kind, truth, list, Op, hd, tl, null, Expr, constant, empty, param, op, ifte, call, Args, noArgs, arg, Function, Program, IsMain, WellKinded}
 
 -- a list of bytes
@@ -67,7 +68,7 @@ kindsByte params result = binary (padded mostParams false (map isList params) ++
 unfoldable pub encodeFunction : Function → List ℕ
 encodeFunction f =
     let size = length (encodeExpr (f .body)) in
-    length (f .params) ∷ kindsByte (f .params) (f .result) ∷ size % 256 ∷ size / 256 ∷ encodeExpr (f .body)
+    length (f .params) ∷ kindsByte (f .params) (f .result) ∷ lowFirst 2 size ++ encodeExpr (f .body)
 
 unfoldable pub encodeFunctions : Program → List ℕ
 encodeFunctions [] = []

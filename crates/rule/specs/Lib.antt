@@ -1,11 +1,9 @@
 -- Program bytes, in the order of document 01:
 --   Form       'Program bytes': the limits, the bytes of a program, which bytes are accepted
 --   Reading    'What is refused', 5 to 17: what any bytes are read as
---   Layout     what evaluating needs of an accepted program
---   Rows       'Programs tried'
+--   Outline    what evaluating needs of an accepted program
 -- Walk, a mirror of the code, is no part of what a reader must believe.
 pub mod Form
 pub mod Reading
-pub mod Layout
-pub mod Rows
+pub mod Outline
 pub mod Walk

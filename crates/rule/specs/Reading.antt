@@ -1,8 +1,8 @@
 -- 'What is refused', 5 to 17, of document 01: any bytes are read as a program, or refused by the first number
 -- that applies. 'In 7 to 9 the first function at fault decides; in 12 to 17 the first function, and in it the
 -- first byte'; at one byte the lowest number.
-use Prim.Native.Nat.{ℕ, zero, suc, _+_, _-_, _*_, _%_, _^_}
-use mathlib.Core.Bool.{Bool, true, false, not, _&&_, _||_}
+use Prim.Native.Nat.{ℕ, zero, suc, _-_, _%_, _^_}
+use mathlib.Core.Bool.{Bool, true, false, not, _&&_, _||_, cond}
 use mathlib.Core.List.{List, [], _∷_, map}
 use mathlib.Core.Option.{Option, none, some}
 use lib.ListN.{length, getElem?, getD, take, drop}
@@ -12,8 +12,8 @@ use Rattle.refusal.specs.declared.Refusal.the-variants.{ProgramLength, Function
 use Rattle.refusal.specs.declared.Check.{Check}
 use Rattle.refusal.specs.declared.Check.the-variants as check
 use Rattle.trace.specs.{bitOf}
+use Rattle.encoding.specs.{fromLow}
 use Rattle.semantics.specs.Language.{Kind, truth, list, Op, hd, tl, null, Expr, constant, empty, param, op, ifte, call, Args, noArgs, arg, Function, Program, opKind}
-use Rattle.semantics.specs.Table.{pick}
 use Rattle.rule.specs.declared.Node.{Node}
 use Rattle.rule.specs.declared.Node.the-variants as node
 use Rattle.rule.specs.declared.Header.{Header}
@@ -32,9 +32,9 @@ onward (got a rest) k = k a rest
 onward (refused f) k = refused f
 
 -- a refusal where a test holds, else go on
-abbrev pub refusedIf : {A : Type 0} → Bool → Refusal → Parsed A → Parsed A
-refusedIf true f p = refused f
-refusedIf false f p = p
+abbrev pub unlessFault : {A : Type 0} → Bool → Refusal → Parsed A → Parsed A
+unlessFault true f p = refused f
+unlessFault false f p = p
 
 -- ---- Headers: 7 to 9
 
@@ -46,20 +46,21 @@ kindsFault params kinds = ltb mostParams params || (leb (2 ^ params) (kinds % 16
 abbrev pub lengthFault : ℕ → ℕ → Bool
 lengthFault size remains = eqb size 0 || (ltb mostBody size || ltb remains size)
 
+-- 'body length, 16 bits, low byte first'
 abbrev pub bodyLength : List ℕ → ℕ
-bodyLength bs = getD bs 2 0 + 256 * getD bs 3 0
+bodyLength bs = fromLow (getD bs 2 0 ∷ getD bs 3 0 ∷ [])
 
 -- the header at the front of some bytes; 7: 'fewer than four bytes remain for a header'
 unfoldable pub headerOf : List ℕ → HeaderRead
 headerOf bs =
-    pick (ltb (length bs) 4) (Refused HeaderCut)
-    (pick (kindsFault (getD bs 0 0) (getD bs 1 0)) (Refused ParameterKinds)
-    (pick (lengthFault (bodyLength bs) (length bs - 4)) (Refused BodyLength)
+    cond (ltb (length bs) 4) (Refused HeaderCut)
+    (cond (kindsFault (getD bs 0 0) (getD bs 1 0)) (Refused ParameterKinds)
+    (cond (lengthFault (bodyLength bs) (length bs - 4)) (Refused BodyLength)
     (Found (record { params = getD bs 0 0; kinds = getD bs 1 0; length = bodyLength bs }))))
 
 -- the kind that bit i of a kinds byte says
 abbrev pub kindAt : ℕ → ℕ → Kind
-kindAt kinds i = pick (bitOf i kinds) list truth
+kindAt kinds i = cond (bitOf i kinds) list truth
 
 -- the kinds that n bits of a kinds byte say, from bit i on
 unfoldable pub kindsFrom : ℕ → ℕ → ℕ → List Kind
@@ -91,16 +92,16 @@ rawsFrom (suc n) bs = onward (rawFrom (headerOf bs) bs) (λ x rest. onward (raws
 -- the table of expression bytes
 unfoldable pub nodeOf : ℕ → Node
 nodeOf b =
-    pick (eqb b 0x00) node.False
-    (pick (eqb b 0x01) node.True
-    (pick (eqb b 0x02) node.Empty
-    (pick (leb 0x10 b && leb b 0x13) (node.Param (b - 0x10))
-    (pick (eqb b 0x20) node.Head
-    (pick (eqb b 0x21) node.Tail
-    (pick (eqb b 0x22) node.Null
-    (pick (eqb b 0x23) node.If
-    (pick (eqb b 0x24) node.Cons
-    (pick (leb 0x80 b && leb b 0x9F) (node.Call (b - 0x80)) node.Unknown)))))))))
+    cond (eqb b 0x00) node.False
+    (cond (eqb b 0x01) node.True
+    (cond (eqb b 0x02) node.Empty
+    (cond (leb 0x10 b && leb b 0x13) (node.Param (b - 0x10))
+    (cond (eqb b 0x20) node.Head
+    (cond (eqb b 0x21) node.Tail
+    (cond (eqb b 0x22) node.Null
+    (cond (eqb b 0x23) node.If
+    (cond (eqb b 0x24) node.Cons
+    (cond (leb 0x80 b && leb b 0x9F) (node.Call (b - 0x80)) node.Unknown)))))))))
 
 abbrev pub sameKind : Kind → Kind → Bool
 sameKind truth truth = true
@@ -110,7 +111,7 @@ sameKind list list = true
 
 -- 16: 'the node's kind is not the one its place demands'
 abbrev pub demanded : {A : Type 0} → Kind → Kind → Parsed A → Parsed A
-demanded demand kind p = refusedIf (not (sameKind demand kind)) WrongKind p
+demanded demand kind p = unlessFault (not (sameKind demand kind)) WrongKind p
 
 -- the arguments of a call, each at the kind of its parameter
 unfoldable pub argsFrom : (Kind → List ℕ → Parsed Expr) → List Kind → List ℕ → Parsed Args
@@ -194,16 +195,24 @@ headers xs = map (λ (x : Raw). x .header) xs
 -- 10: 'bytes remain after the last function'
 abbrev pub bodiesFrom : List Raw → List ℕ → Parsed Program
 bodiesFrom xs rest =
-    refusedIf (not (eqb (length rest) 0)) BytesAfterFunctions
-    (refusedIf (not (mainFirst (headers xs))) MainKind
+    unlessFault (not (eqb (length rest) 0)) BytesAfterFunctions
+    (unlessFault (not (mainFirst (headers xs))) MainKind
     (functionsFrom (headers xs) xs))
 
 -- 5: 'the program is empty or longer than 4,096 bytes', 6: 'the function count is 0 or above 32'
 unfoldable pub programFrom : List ℕ → Parsed Program
 programFrom bs =
-    refusedIf (eqb (length bs) 0 || ltb mostBytes (length bs)) ProgramLength
-    (refusedIf (eqb (getD bs 0 0) 0 || ltb mostFunctions (getD bs 0 0)) FunctionCount
+    unlessFault (eqb (length bs) 0 || ltb mostBytes (length bs)) ProgramLength
+    (unlessFault (eqb (getD bs 0 0) 0 || ltb mostFunctions (getD bs 0 0)) FunctionCount
     (onward (rawsFrom (getD bs 0 0) (drop 1 bs)) bodiesFrom))
+
+-- the program that bytes are read as; of refused bytes, one of no functions
+abbrev pub programIn : Parsed Program → Program
+programIn (got P rest) = P
+programIn (refused f) = []
+
+abbrev pub programOf : List ℕ → Program
+programOf bs = programIn (programFrom bs)
 
 -- the check of a program, 5 to 17
 abbrev pub checkFrom : {A : Type 0} → Parsed A → Check

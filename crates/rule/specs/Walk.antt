@@ -2,7 +2,7 @@
 -- What a walk comes to is one number: a place of the body, or a refusal, which is above all places.
 -- No reader need believe it: proofs/ shows that it comes to what Reading says.
 use Prim.Native.Nat.{ℕ, zero, suc, _+_, _-_, _<_, _≤_}
-use mathlib.Core.Bool.{Bool, true, false, not}
+use mathlib.Core.Bool.{Bool, true, false, not, cond}
 use mathlib.Core.List.{List, [], _∷_, map}
 use lib.Dec.{ltb, leb, eqb}
 use lib.ListN.{length, getD, take, drop}
@@ -10,43 +10,42 @@ use Rattle.refusal.specs.declared.Refusal.{Refusal}
 use Rattle.refusal.specs.declared.Refusal.the-variants.{BodyEnds, TooDeep, ListConstructor, UnknownByte, WrongKind, BytesAfterExpression}
 use Rattle.refusal.specs.declared.Check.{Check}
 use Rattle.refusal.specs.declared.Check.the-variants as check
-use Rattle.refusal.specs.{numberOf, _then_}
+use Rattle.refusal.specs.{numberOf, checkOf, _then_}
 use Rattle.trace.specs.{bitOf}
-use Rattle.semantics.specs.Table.{pick}
 use Rattle.rule.specs.declared.Node.{Node}
 use Rattle.rule.specs.declared.Node.the-variants as node
-use Rattle.rule.specs.declared.Layout.{Layout}
+use Rattle.rule.specs.declared.Outline.{Outline}
 use Rattle.rule.specs.declared.functions.Scan.{Scan}
 use Rattle.rule.specs.Form.{mostFunctions, mostParams, mostDepth, mostBytes, padded}
 use Rattle.rule.specs.Reading.{Parsed, got, refused, Raw, nodeOf}
-use Rattle.rule.specs.Layout.{layoutOf}
+use Rattle.rule.specs.Outline.{outlineOf}
 
 abbrev pub same : Bool → Bool → Bool
-same a b = pick a b (not b)
+same a b = cond a b (not b)
 
-abbrev pub few : ℕ → ℕ
-few count = pick (ltb count 5) count 4
+abbrev pub atMostFour : ℕ → ℕ
+atMostFour count = cond (ltb count 5) count 4
 
 -- the numbers from here on stand for refusals
-abbrev pub stops : ℕ
-stops = 65536
+abbrev pub firstStop : ℕ
+firstStop = 65536
 
 unfoldable pub stop : Refusal → ℕ
-stop f = stops + numberOf f
+stop f = firstStop + numberOf f
 
 -- what stands where the body has ended: the number that came so far, if it is a refusal's
 abbrev pub ended : ℕ → ℕ
-ended at = pick (ltb at stops) (stop BodyEnds) at
+ended at = cond (ltb at firstStop) (stop BodyEnds) at
 
 -- a node of a kind at a place that demands one
 abbrev pub ofDemand : Bool → Bool → ℕ → ℕ
-ofDemand demand list w = pick (same demand list) w (stop WrongKind)
+ofDemand demand list w = cond (same demand list) w (stop WrongKind)
 
-unfoldable pub leafAt : Bool → Bool → ℕ → ℕ
-leafAt demand list next = ofDemand demand list next
+unfoldable pub leafWalked : Bool → Bool → ℕ → ℕ
+leafWalked demand list next = ofDemand demand list next
 
-unfoldable pub paramAt : ℕ → ℕ → Bool → ℕ → ℕ → ℕ
-paramAt count kinds demand i next = pick (ltb i count) (leafAt demand (bitOf i kinds) next) (stop UnknownByte)
+unfoldable pub paramWalked : ℕ → ℕ → Bool → ℕ → ℕ → ℕ
+paramWalked count kinds demand i next = cond (ltb i count) (leafWalked demand (bitOf i kinds) next) (stop UnknownByte)
 
 -- what a check of a body does not change
 pub record Frame : Type 0 where
@@ -61,10 +60,28 @@ abbrev pub frame : List ℕ → ℕ → List ℕ → List ℕ → ℕ → ℕ �
 frame body functions params kinds ownParams ownKinds =
     record { body = body; functions = functions; params = params; kinds = kinds; ownParams = ownParams; ownKinds = ownKinds }
 
--- the frame that an array of the code has: counts of parameters from 0 on, kinds bytes from 32 on, at 64 how many functions
--- there are, at 65 and 66 the count and the kinds byte of the body's function
+-- an array of the code with headers: from 0 on the functions' counts of parameters, from `kindsPlace` on their kinds
+-- bytes, then how many functions there are, and the count and the kinds byte of the body's function
+abbrev pub kindsPlace : ℕ
+kindsPlace = 32
+
+abbrev pub functionsPlace : ℕ
+functionsPlace = 64
+
+abbrev pub ownParamsPlace : ℕ
+ownParamsPlace = 65
+
+abbrev pub ownKindsPlace : ℕ
+ownKindsPlace = 66
+
+abbrev pub headsLength : ℕ
+headsLength = 67
+
+-- the frame that such an array has
 abbrev pub frameIn : List ℕ → List ℕ → Frame
-frameIn body heads = frame body (getD heads 64 0) (take 32 heads) (take 32 (drop 32 heads)) (getD heads 65 0) (getD heads 66 0)
+frameIn body heads =
+    frame body (getD heads functionsPlace 0) (take mostFunctions heads) (take mostFunctions (drop kindsPlace heads))
+    (getD heads ownParamsPlace 0) (getD heads ownKindsPlace 0)
 
 -- a frame within the limits of a program
 pub record Sized (F : Frame) : Type 0 where
@@ -73,61 +90,53 @@ pub record Sized (F : Frame) : Type 0 where
   pub own : F .ownParams ≤ mostParams
 
 -- so many arguments, from argument i on
-unfoldable pub argsAt : (Bool → ℕ → ℕ) → ℕ → ℕ → ℕ → ℕ → ℕ
-argsAt walk kinds zero i at = at
-argsAt walk kinds (suc n) i at = argsAt walk kinds n (i + 1) (walk (bitOf i kinds) at)
+unfoldable pub argsWalked : (Bool → ℕ → ℕ) → ℕ → ℕ → ℕ → ℕ → ℕ
+argsWalked walk kinds zero i at = at
+argsWalked walk kinds (suc n) i at = argsWalked walk kinds n (i + 1) (walk (bitOf i kinds) at)
 
-abbrev pub armsBy : (Bool → ℕ → ℕ) → Bool → ℕ → ℕ
-armsBy walk demand at = walk demand (walk demand (walk false at))
+abbrev pub armsWalked : (Bool → ℕ → ℕ) → Bool → ℕ → ℕ
+armsWalked walk demand at = walk demand (walk demand (walk false at))
 
-abbrev pub callBy : Frame → (Bool → ℕ → ℕ) → Bool → ℕ → ℕ → ℕ
-callBy F walk demand at g =
-    pick (leb (F .functions) g) (stop UnknownByte)
-    (ofDemand demand (bitOf 4 (getD (F .kinds) g 0)) (argsAt walk (getD (F .kinds) g 0) (few (getD (F .params) g 0)) 0 at))
+abbrev pub callWalked : Frame → (Bool → ℕ → ℕ) → Bool → ℕ → ℕ → ℕ
+callWalked F walk demand at g =
+    cond (leb (F .functions) g) (stop UnknownByte)
+    (ofDemand demand (bitOf 4 (getD (F .kinds) g 0)) (argsWalked walk (getD (F .kinds) g 0) (atMostFour (getD (F .params) g 0)) 0 at))
 
-abbrev pub nodeBy : Frame → (Bool → ℕ → ℕ) → Bool → ℕ → Node → ℕ
-nodeBy F walk demand at node.False = leafAt demand false at
-nodeBy F walk demand at node.True = leafAt demand false at
-nodeBy F walk demand at node.Empty = leafAt demand true at
-nodeBy F walk demand at (node.Param i) = paramAt (F .ownParams) (F .ownKinds) demand i at
-nodeBy F walk demand at node.Head = ofDemand demand false (walk true at)
-nodeBy F walk demand at node.Tail = ofDemand demand true (walk true at)
-nodeBy F walk demand at node.Null = ofDemand demand false (walk true at)
-nodeBy F walk demand at node.If = armsBy walk demand at
-nodeBy F walk demand at node.Cons = stop ListConstructor
-nodeBy F walk demand at (node.Call g) = callBy F walk demand at g
-nodeBy F walk demand at node.Unknown = stop UnknownByte
+abbrev pub nodeWalked : Frame → (Bool → ℕ → ℕ) → Bool → ℕ → Node → ℕ
+nodeWalked F walk demand at node.False = leafWalked demand false at
+nodeWalked F walk demand at node.True = leafWalked demand false at
+nodeWalked F walk demand at node.Empty = leafWalked demand true at
+nodeWalked F walk demand at (node.Param i) = paramWalked (F .ownParams) (F .ownKinds) demand i at
+nodeWalked F walk demand at node.Head = ofDemand demand false (walk true at)
+nodeWalked F walk demand at node.Tail = ofDemand demand true (walk true at)
+nodeWalked F walk demand at node.Null = ofDemand demand false (walk true at)
+nodeWalked F walk demand at node.If = armsWalked walk demand at
+nodeWalked F walk demand at node.Cons = stop ListConstructor
+nodeWalked F walk demand at (node.Call g) = callWalked F walk demand at g
+nodeWalked F walk demand at node.Unknown = stop UnknownByte
 
 -- the expression at a place, with so much depth left; from a refusal on, that refusal
 unfoldable pub checkAt : Frame → ℕ → Bool → ℕ → ℕ
-checkAt F zero demand at = pick (leb (length (F .body)) at) (ended at) (stop TooDeep)
+checkAt F zero demand at = cond (leb (length (F .body)) at) (ended at) (stop TooDeep)
 checkAt F (suc d) demand at =
-    pick (leb (length (F .body)) at) (ended at)
-    (nodeBy F (checkAt F d) demand (at + 1) (nodeOf (getD (F .body) at 0)))
+    cond (leb (length (F .body)) at) (ended at)
+    (nodeWalked F (checkAt F d) demand (at + 1) (nodeOf (getD (F .body) at 0)))
 
 unfoldable pub unaryAt : Frame → ℕ → Bool → Bool → ℕ → ℕ
 unaryAt F d demand list at = ofDemand demand list (checkAt F d true at)
 
 unfoldable pub armsAt : Frame → ℕ → Bool → ℕ → ℕ
-armsAt F d demand at = armsBy (checkAt F d) demand at
+armsAt F d demand at = armsWalked (checkAt F d) demand at
 
-unfoldable pub callAt : Frame → ℕ → Bool → ℕ → ℕ → ℕ
-callAt F d demand at g = callBy F (checkAt F d) demand at g
+unfoldable pub callWalkedAt : Frame → ℕ → Bool → ℕ → ℕ → ℕ
+callWalkedAt F d demand at g = callWalked F (checkAt F d) demand at g
 
 -- ---- Bodies
-
--- the refusal of an expression that a number stands for
-unfoldable pub stoppedBy : ℕ → Refusal
-stoppedBy w =
-    pick (eqb w (stop BodyEnds)) BodyEnds
-    (pick (eqb w (stop TooDeep)) TooDeep
-    (pick (eqb w (stop ListConstructor)) ListConstructor
-    (pick (eqb w (stop UnknownByte)) UnknownByte WrongKind)))
 
 -- what the walk over a body of so many bytes comes to
 unfoldable pub bodyEnd : ℕ → ℕ → Check
 bodyEnd len w =
-    pick (ltb w stops) (pick (eqb w len) check.Passed (check.Refused BytesAfterExpression)) (check.Refused (stoppedBy w))
+    cond (ltb w firstStop) (cond (eqb w len) check.Passed (check.Refused BytesAfterExpression)) (checkOf (w - firstStop))
 
 -- a whole body
 unfoldable pub bodyAt : Frame → Check
@@ -155,7 +164,7 @@ pub record Placed (len count : ℕ) (params starts ends : List ℕ) : Type 0 whe
 
 -- a header of main's kind
 abbrev pub mainBits : ℕ → ℕ → Bool
-mainBits params kinds = pick (eqb params 1) (pick (bitOf 0 kinds) (not (bitOf 4 kinds)) false) false
+mainBits params kinds = cond (eqb params 1) (cond (bitOf 0 kinds) (not (bitOf 4 kinds)) false) false
 
 -- a program whose length and count are not refused
 pub record Counted (bytes : List ℕ) (count : ℕ) : Type 0 where
@@ -172,8 +181,8 @@ unfoldable pub rawEnds : ℕ → List Raw → List ℕ
 rawEnds at [] = []
 rawEnds at (x ∷ xs) = (at + 4 + x .header .length) ∷ rawEnds (at + 4 + x .header .length) xs
 
-unfoldable pub rawLayout : List Raw → Layout
-rawLayout xs =
+unfoldable pub rawOutline : List Raw → Outline
+rawOutline xs =
     record {
       functions = length xs;
       params = padded mostFunctions 0 (map (λ (x : Raw). x .header .params) xs);
@@ -183,5 +192,5 @@ rawLayout xs =
     }
 
 abbrev pub scanFrom : ℕ → Parsed (List Raw) → Scan
-scanFrom len (got xs rest) = record { check = check.Passed; layout = rawLayout xs; end = len - length rest }
-scanFrom len (refused f) = record { check = check.Refused f; layout = layoutOf []; end = 0 }
+scanFrom len (got xs rest) = record { check = check.Passed; outline = rawOutline xs; end = len - length rest }
+scanFrom len (refused f) = record { check = check.Refused f; outline = outlineOf []; end = 0 }

@@ -6,8 +6,7 @@ use crate::nodes::node_of;
 use refusal::Refusal;
 ghost use mathlib.Core.Path.{_≡_};
 ghost use Prim.Native.Nat.{_<_, _≤_};
-ghost use Rattle.trace.specs.{bitOf};
-ghost use Rattle.rule.specs.Walk.{same, leafAt, paramAt, few, frameIn, Sized, stop, ended, stoppedBy, checkAt, unaryAt, armsAt, callAt};
+ghost use Rattle.rule.specs.Walk.{same, leafWalked, paramWalked, atMostFour, frameIn, Sized, stop, ended, checkAt, unaryAt, armsAt, callWalkedAt};
 
 // The numbers from here on stand for refusals: no place of a body is so great.
 pub const STOPS: usize = 65536;
@@ -60,25 +59,6 @@ fn refused(refusal: Refusal) -> usize
     STOPS + (refusal::number(refusal) as usize)
 }
 
-// The refusal of an expression that a number stands for.
-pub fn refusal_of(walked: usize) -> Refusal
-    ensures { λ r. ⌜ r ≡ stoppedBy walked ⌝ }
-{
-    if walked == refused(Refusal::BodyEnds) {
-        return Refusal::BodyEnds;
-    }
-    if walked == refused(Refusal::TooDeep) {
-        return Refusal::TooDeep;
-    }
-    if walked == refused(Refusal::ListConstructor) {
-        return Refusal::ListConstructor;
-    }
-    if walked == refused(Refusal::UnknownByte) {
-        return Refusal::UnknownByte;
-    }
-    Refusal::WrongKind
-}
-
 // What an expression at no place of the body comes to: the refusal so far, or 12.
 fn after_end(at: usize) -> usize
     ensures { λ r. ⌜ r ≡ ended at ⌝ }
@@ -92,7 +72,7 @@ fn after_end(at: usize) -> usize
 
 // A node with no operands.
 fn leaf(demand: bool, list: bool, next: usize) -> usize
-    ensures { λ r. ⌜ r ≡ leafAt demand list next ⌝ }
+    ensures { λ r. ⌜ r ≡ leafWalked demand list next ⌝ }
 {
     if alike(demand, list) {
         next
@@ -103,10 +83,10 @@ fn leaf(demand: bool, list: bool, next: usize) -> usize
 
 fn param(own_params: u8, own_kinds: u8, demand: bool, i: u8, next: usize) -> usize
     requires { ⌜ «own_params» ≤ 4 ⌝ }
-    ensures { λ r. ⌜ r ≡ paramAt «own_params» «own_kinds» demand i next ⌝ }
+    ensures { λ r. ⌜ r ≡ paramWalked «own_params» «own_kinds» demand i next ⌝ }
 {
     if i < own_params {
-        leaf(demand, bit(own_kinds, i), next)
+        leaf(demand, trace::bit(own_kinds as u64, i as u64), next)
     } else {
         refused(Refusal::UnknownByte)
     }
@@ -137,19 +117,19 @@ fn arms(body: &&[u8], heads: &[u8; HEADS], demand: bool, depth: u8, at: usize) -
 // A call of a function, with its arguments.
 fn call(body: &&[u8], heads: &[u8; HEADS], demand: bool, depth: u8, at: usize, callee: u8) -> usize
     requires { ⌜ Sized (frameIn (now (now body)) (now heads)) ⌝ }
-    ensures { λ r. ⌜ r ≡ callAt (frameIn (now (now (body .entry))) (now (heads .entry))) depth demand at callee ⌝ }
+    ensures { λ r. ⌜ r ≡ callWalkedAt (frameIn (now (now (body .entry))) (now (heads .entry))) depth demand at callee ⌝ }
 {
     if heads[FUNCTIONS] <= callee {
         return refused(Refusal::UnknownByte);
     }
     let g = callee as usize;
-    let signature = heads[KINDS + g];
-    if alike(demand, bit(signature, 4)) {
+    let signature = wide(heads[KINDS + g]);
+    if alike(demand, trace::bit(signature, 4)) {
         let count = at_most_four(heads[g]);
-        let mut i: u8 = 0;
+        let mut i: u64 = 0;
         let mut next = at;
         while i < count {
-            next = check(body, heads, bit(signature, i), depth, next);
+            next = check(body, heads, trace::bit(signature, i), depth, next);
             i += 1;
         }
         next
@@ -165,16 +145,15 @@ fn alike(a: bool, b: bool) -> bool
     if a { b } else { !b }
 }
 
-// Bit i of a byte.
-pub fn bit(byte: u8, i: u8) -> bool
-    requires { ⌜ i < 8 ⌝ }
-    ensures { λ r. ⌜ r ≡ bitOf i byte ⌝ }
+// A byte as a number of 64 bits.
+pub fn wide(byte: u8) -> u64
+    ensures { λ r. ⌜ r ≡ byte ⌝ }
 {
-    (byte >> i) % 2 == 1
+    byte as u64
 }
 
-fn at_most_four(count: u8) -> u8
-    ensures { λ r. ⌜ (r ≡ few count) × (r ≤ 4) ⌝ }
+fn at_most_four(count: u8) -> u64
+    ensures { λ r. ⌜ (r ≡ atMostFour count) × (r ≤ 4) ⌝ }
 {
-    if count < 5 { count } else { 4 }
+    if count < 5 { count as u64 } else { 4 }
 }

@@ -1,8 +1,8 @@
 // A program's functions: the headers one after the other, main's kind, then the bodies; 7 to 11 and 17
 // of the list.
-use crate::Checked;
 use crate::HeaderRead;
-use crate::Layout;
+use crate::Judged;
+use crate::Outline;
 use crate::expression;
 use crate::expression::HEADS;
 use crate::headers;
@@ -14,13 +14,13 @@ ghost use mathlib.Core.List.{List, []};
 ghost use lib.ListN.{length, drop};
 ghost use lib.Seq.{paste};
 ghost use Rattle.rule.specs.Reading.{onward, rawsFrom, bodiesFrom};
-ghost use Rattle.rule.specs.Layout.{layoutOf, checkedFrom};
+ghost use Rattle.rule.specs.Outline.{outlineOf, judgedFrom};
 ghost use Rattle.rule.specs.Walk.{frame, frameIn, Sized, frameAt, mainBits, bodyAt, bodiesAt, Placed, Counted, scanFrom};
 
 // Checks the functions of a program of so many.
-pub fn check_functions(program: &[u8], count: u8) -> Checked
+pub fn check_functions(program: &[u8], count: u8) -> Judged
     requires { ⌜ Counted (now program) count ⌝ }
-    ensures { λ r. ⌜ r ≡ checkedFrom (onward (rawsFrom count (drop 1 (now (program .entry)))) bodiesFrom) ⌝ }
+    ensures { λ r. ⌜ r ≡ judgedFrom (onward (rawsFrom count (drop 1 (now (program .entry)))) bodiesFrom) ⌝ }
 {
     let scan = scan_headers(program, count);
     let check = scan.check;
@@ -30,17 +30,17 @@ pub fn check_functions(program: &[u8], count: u8) -> Checked
             if scan.end < program.len() {
                 return refused(Refusal::BytesAfterFunctions);
             }
-            let layout = scan.layout;
-            let params = layout.params;
-            let kinds = layout.kinds;
+            let outline = scan.outline;
+            let params = outline.params;
+            let kinds = outline.kinds;
             if is_main(params[0], kinds[0]) {
-                let starts = layout.starts;
-                let ends = layout.ends;
+                let starts = outline.starts;
+                let ends = outline.ends;
                 match check_bodies(program, count, &params, &kinds, &starts, &ends) {
                     Check::Refused(refusal) => refused(refusal),
-                    Check::Passed => Checked {
+                    Check::Passed => Judged {
                         check: Check::Passed,
-                        layout,
+                        outline,
                     },
                 }
             } else {
@@ -50,21 +50,21 @@ pub fn check_functions(program: &[u8], count: u8) -> Checked
     }
 }
 
-// A refusal, with the layout of no functions.
-pub fn refused(refusal: Refusal) -> Checked
-    ensures { λ r. ⌜ (r .check ≡ Check.Refused refusal) × (r .layout ≡ layoutOf []) ⌝ }
+// A refusal, with the outline of no functions.
+pub fn refused(refusal: Refusal) -> Judged
+    ensures { λ r. ⌜ (r .check ≡ Check.Refused refusal) × (r .outline ≡ outlineOf []) ⌝ }
 {
-    Checked {
+    Judged {
         check: Check::Refused(refusal),
-        layout: no_functions(),
+        outline: no_functions(),
     }
 }
 
-// The layout of no functions.
-fn no_functions() -> Layout
-    ensures { λ r. ⌜ r ≡ layoutOf [] ⌝ }
+// The outline of no functions.
+fn no_functions() -> Outline
+    ensures { λ r. ⌜ r ≡ outlineOf [] ⌝ }
 {
-    Layout {
+    Outline {
         functions: 0,
         params: [0; 32],
         kinds: [0; 32],
@@ -76,7 +76,7 @@ fn no_functions() -> Layout
 // What the headers come to: a refusal, or where the functions stand and the place after the last.
 pub struct Scan {
     pub check: Check,
-    pub layout: Layout,
+    pub outline: Outline,
     pub end: usize,
 }
 
@@ -97,7 +97,7 @@ fn scan_headers(program: &[u8], count: u8) -> Scan
             HeaderRead::Refused(refusal) => {
                 return Scan {
                     check: Check::Refused(refusal),
-                    layout: no_functions(),
+                    outline: no_functions(),
                     end: 0,
                 };
             }
@@ -115,7 +115,7 @@ fn scan_headers(program: &[u8], count: u8) -> Scan
     }
     Scan {
         check: Check::Passed,
-        layout: Layout {
+        outline: Outline {
             functions: count,
             params,
             kinds,
@@ -131,8 +131,8 @@ fn is_main(params: u8, kinds: u8) -> bool
     ensures { λ r. ⌜ r ≡ mainBits params kinds ⌝ }
 {
     if params == 1 {
-        if expression::bit(kinds, 0) {
-            !expression::bit(kinds, 4)
+        if trace::bit(kinds as u64, 0) {
+            !trace::bit(kinds as u64, 4)
         } else {
             false
         }
@@ -207,10 +207,11 @@ fn check_body(body: &[u8], heads: &[u8; HEADS]) -> Check
     requires { ⌜ Sized (frameIn (now body) (now heads)) ⌝ }
     ensures { λ r. ⌜ r ≡ bodyAt (frameIn (now (body .entry)) (now (heads .entry))) ⌝ }
 {
-    let list = expression::bit(heads[expression::OWN_KINDS], 4);
+    let signature = expression::wide(heads[expression::OWN_KINDS]);
+    let list = trace::bit(signature, 4);
     let end = expression::check(&body, heads, list, crate::MOST_DEPTH, 0);
     if expression::STOPS <= end {
-        return Check::Refused(expression::refusal_of(end));
+        return refusal::numbered(end - expression::STOPS);
     }
     if end == body.len() {
         Check::Passed

@@ -3,7 +3,7 @@ use crate::Header;
 use crate::HeaderRead;
 use refusal::Refusal;
 ghost use mathlib.Core.Path.{_≡_};
-ghost use Prim.Native.Nat.{_+_, _*_, _≤_};
+ghost use Prim.Native.Nat.{_≤_};
 ghost use lib.ListN.{length, drop};
 ghost use Rattle.rule.specs.Reading.{kindsFault, lengthFault, headerOf};
 
@@ -21,7 +21,7 @@ pub fn header_at(program: &[u8], at: usize) -> HeaderRead
     if kinds_fault(params, kinds) {
         return HeaderRead::Refused(Refusal::ParameterKinds);
     }
-    let length = sixteen(program[at + 2], program[at + 3]);
+    let length = encoding::from16(program[at + 2], program[at + 3]);
     if length_fault(length, remains - 4) {
         return HeaderRead::Refused(Refusal::BodyLength);
     }
@@ -57,11 +57,4 @@ fn length_fault(size: u16, remains: usize) -> bool
         return true;
     }
     remains < wide
-}
-
-// A number of sixteen bits, low byte first.
-fn sixteen(low: u8, high: u8) -> u16
-    ensures { λ r. ⌜ r ≡ low + 256 * high ⌝ }
-{
-    (low as u16) + 256 * (high as u16)
 }

@@ -9,7 +9,7 @@ use refusal::Check;
 use refusal::Refusal;
 ghost use mathlib.Core.Path.{_≡_};
 ghost use Rattle.rule.specs.Reading.{programFrom, programCheck};
-ghost use Rattle.rule.specs.Layout.{layoutFrom};
+ghost use Rattle.rule.specs.Outline.{outlineFrom};
 pub use nodes::node_of;
 
 // The limits of document 01.
@@ -53,7 +53,7 @@ pub enum HeaderRead {
 
 // Where the functions of a program stand: for each its number of parameters, its kinds byte, and the
 // places of its body's first byte and of the byte after it.
-pub struct Layout {
+pub struct Outline {
     pub functions: u8,
     pub params: [u8; 32],
     pub kinds: [u8; 32],
@@ -61,16 +61,16 @@ pub struct Layout {
     pub ends: [u16; 32],
 }
 
-// What the check of a program comes to; of refused bytes the layout is that of no functions.
-pub struct Checked {
+// What the check of a program comes to; of refused bytes the outline is that of no functions.
+pub struct Judged {
     pub check: Check,
-    pub layout: Layout,
+    pub outline: Outline,
 }
 
 // Checks program bytes.
-pub fn check_program(program: &[u8]) -> Checked
+pub fn check_program(program: &[u8]) -> Judged
     ensures check { λ r. ⌜ r .check ≡ programCheck (now (program .entry)) ⌝ }
-    ensures layout { λ r. ⌜ r .layout ≡ layoutFrom (programFrom (now (program .entry))) ⌝ }
+    ensures outline { λ r. ⌜ r .outline ≡ outlineFrom (programFrom (now (program .entry))) ⌝ }
 {
     let len = program.len();
     if len == 0 {

@@ -1,6 +1,6 @@
 -- Rule induction: what each rule keeps holds of all that is derived.
 --   Kept                    a property of outcomes and one of arguments, kept by each rule
---   derived, derived-all    they hold of what is derived
+--   derived                 the first holds of what is derived
 use Prim.Native.Nat.{ℕ, zero}
 use mathlib.Core.Path.{_≡_}
 use mathlib.Core.Bool.{Bool, true, false}
@@ -11,7 +11,7 @@ use Rattle.semantics.specs.declared.Error.{Error}
 use Rattle.semantics.specs.declared.Outcome.{Outcome}
 use Rattle.semantics.specs.declared.Outcome.the-variants.{Truth, Suffix, Failed}
 use Rattle.semantics.specs.Language.{Op, Expr, constant, empty, param, op, ifte, call, Args, noArgs, arg, Function, Program, Trace, Value, given}
-use Rattle.semantics.specs.Rules.{applied, Arguments, values, failed, Derives, r-constant, r-empty, r-param, r-op, r-op-error, r-then, r-else, r-if-error, r-call, r-call-error, DerivesAll, r-none, r-arg, r-arg-error, r-later-error}
+use Rattle.semantics.specs.Rules.{applied, Arguments, values, failed, Derives, r-constant, r-empty, r-param, r-op, r-op-error, r-then, r-else, r-if-error, r-call, r-call-error, r-none, r-arg, r-arg-error, r-later-error}
 
 pub record Kept (P : Program) (t : Trace) (A : List Value → Expr → Outcome → Type 0) (B : List Value → Args → Arguments → Type 0) : Type 0 where
   pub k-constant : {env : List Value} {b : Bool} → A env (constant b) (Truth b)
@@ -50,9 +50,3 @@ module _ {P : Program} {t : Trace} {A : List Value → Expr → Outcome → Type
     | r-arg-error (d → ih) ↦ k .k-arg-error ih
     | r-later-error v (d → ih) (d′ → is) ↦ k .k-later-error v ih is
   ]
-
-  pub derived-all : {env : List Value} {xs : Args} {r : Arguments} → DerivesAll P t env xs r → B env xs r
-  derived-all r-none = k .k-none
-  derived-all (r-arg d s) = k .k-arg (derived d) (derived-all s)
-  derived-all (r-arg-error d) = k .k-arg-error (derived d)
-  derived-all (r-later-error v d s) = k .k-later-error v (derived d) (derived-all s)

@@ -16,7 +16,7 @@ use lib.Dec.{T, ltb, leb→le, le→leb}
 use lib.Arith.{digits-div, digits-mod}
 use borrow.Author.Tests.{ltb-true, ltb-false, lt-ltb, le-ltb}
 use Rattle.semantics.specs.Language.{Kind, truth, list, Function, Program, Trace, Value, bit, suffix, inKind, InKinds}
-use Rattle.semantics.specs.Table.{kindSize, digitOf, valueAt, size, number, valuesAt, cells, cellOf, configAt}
+use Rattle.semantics.specs.Numbering.{kindSize, digitOf, valueAt, size, number, valuesAt, cells, cellOf, configAt}
 
 -- ---- One digit
 

@@ -1,10 +1,10 @@
 -- Passes, on any table, and from zeros:
 --   length-visits, length-pass, length-after       a pass keeps the table's length
 --   stores-none, still-same, same-still            a pass that stores nothing is one that changes nothing
---   Settled, still-settled                         after it no undecided cell has a decided body
+--   Closed, still-closed                         after it no undecided cell has a decided body
 --   undecided-visits, undecided-pass               the undecided cells that a pass leaves, and the outcomes that it stores
 --   visits-good, pass-good, after-good             only derived outcomes are stored
---   settled-closed                                 a settled table's calls are closed under evaluation
+--   closed-calls                                 a settled table's calls are closed under evaluation
 --   first-still, count-in-time                     the pass count
 --   final-good, final-still                        the table when passes end
 --   stored-append, visit-append, visits-append,
@@ -14,7 +14,7 @@ use native.Mathlib.Omega.{arith}
 use native.Mathlib.Decide.{ℕ-discrete}
 use mathlib.Core.Path.{_≡_, refl, sym, ap, _∙_}
 use mathlib.Core.Logic.{_≢_}
-use mathlib.Core.Bool.{Bool, true, false}
+use mathlib.Core.Bool.{Bool, true, false, cond}
 use mathlib.Core.List.{List, _++_}
 use mathlib.Core.Option.{Option, none, some}
 use lib.ListN.{length, getElem?, replicate, length-replicate, getD-replicate, List·getD-append}
@@ -23,7 +23,11 @@ use lib.Seq.{set-append-left}
 use borrow.Author.Tests.{eqb-true, eqb-false}
 use Rattle.semantics.specs.declared.Outcome.{Outcome}
 use Rattle.semantics.specs.Language.{Function, Program, Trace, Value, InKinds, WellKinded}
-use Rattle.semantics.specs.Table.{pick, cells, cellOf, codeOf, bodyOutcome, Table, lookup, heldAt, stored, storedIn, oneIf, visit, visits, stores, pass, passStores, tableAfter, passesFrom, passCount, finalTable}
+use Rattle.semantics.specs.Numbering.{cells, cellOf}
+use Rattle.semantics.specs.Cells.{codeOf}
+use Rattle.semantics.specs.Bodies.{bodyOutcome}
+use Rattle.semantics.specs.Visits.{Table, lookup, heldAt, stored, storedIn, oneIf, visit, visits, stores, pass, passStores}
+use Rattle.semantics.specs.Passes.{tableAfter, passesFrom, passCount, finalTable}
 use Rattle.semantics.specs.Demand.{FirstStill}
 use Rattle.semantics.proofs.Unique.{derives-unique}
 use Rattle.semantics.proofs.Bodies.{sound, ClosedCalls, SameCalls, same-body}
@@ -65,13 +69,13 @@ module _ (P : Program) (t : Trace) (T : Table) where
   still-same e = stores-none (cells t P) e .0
 
 -- no undecided cell has a decided body
-abbrev pub Settled : Program → Trace → Table → Type 0
-Settled P t T = (g : ℕ) (vs : List Value) (f : Function) → getElem? P g ≡ some f → InKinds t (f .params) vs → lookup P t T g vs ≡ none
+abbrev pub Closed : Program → Trace → Table → Type 0
+Closed P t T = (g : ℕ) (vs : List Value) (f : Function) → getElem? P g ≡ some f → InKinds t (f .params) vs → lookup P t T g vs ≡ none
     → bodyOutcome t (lookup P t T) vs (f .body) ≡ none
 
-pub still-settled : (P : Program) (t : Trace) (T : Table) → passStores P t T ≡ 0 → Settled P t T
+pub still-closed : (P : Program) (t : Trace) (T : Table) → passStores P t T ≡ 0 → Closed P t T
 unfolding passStores
-still-settled P t T e g vs f q h l =
+still-closed P t T e g vs f q h l =
     let c = cellOf t P g vs in
     let s = stores-none P t T (cells t P) e .1 c (cell-lt t P g f vs q h) in
     sym (stored-body P t T c (here t P g f vs q h) (sym (lookup-heldAt P t T g vs f q h) ∙ l)) ∙ s
@@ -84,7 +88,8 @@ length-after P t (suc k) = length-pass P t (tableAfter P t k) ∙ length-after P
 -- ---- Well-kinded programs
 
 module _ (P : Program) (t : Trace) (wk : WellKinded P) where
-  pub undecided-visits : (T : Table) → cells t P ≤ length T → (n : ℕ) → n ≤ cells t P → undecided P t (visits P t n T) + stores P t n T ≡ undecided P t T
+  pub undecided-visits : (T : Table) → cells t P ≤ length T → (n : ℕ) → n ≤ cells t P
+      → undecided P t (visits P t n T) + stores P t n T ≡ undecided P t T
   unfolding visits stores
   undecided-visits T len zero l = omega arith
   undecided-visits T len (suc n) l =
@@ -106,8 +111,8 @@ module _ (P : Program) (t : Trace) (wk : WellKinded P) where
   unfolding pass
   pass-good T ok = visits-good T (cells t P) (omega arith) ok
 
-  pub settled-closed : (T : Table) → Good P t T → Settled P t T → ClosedCalls P t (lookup P t T)
-  settled-closed T ok st g vs f o q h b = go (lookup P t T g vs) refl
+  pub closed-calls : (T : Table) → Good P t T → Closed P t T → ClosedCalls P t (lookup P t T)
+  closed-calls T ok st g vs f o q h b = go (lookup P t T g vs) refl
     where
       go : (r : Option Outcome) → lookup P t T g vs ≡ r → lookup P t T g vs ≡ some o
       go none l = let n = st g vs f q h l in cc
@@ -160,7 +165,7 @@ module _ (P : Program) (t : Trace) (wk : WellKinded P) where
       go j a b (no e) = r .first j (omega arith) b
 
   counted-pick : (k later : ℕ) (b : Bool) → eqb (passStores P t (tableAfter P t k)) 0 ≡ b
-      → (passStores P t (tableAfter P t k) ≢ 0 → Counted (suc k) later) → Counted k (pick b (suc k) later)
+      → (passStores P t (tableAfter P t k) ≢ 0 → Counted (suc k) later) → Counted k (cond b (suc k) later)
   counted-pick k later true e r = counted-here k (eqb-true _ _ e)
   counted-pick k later false e r = let n = eqb-false _ _ e in counted-later k later n (r n)
 
@@ -193,7 +198,7 @@ unfolding passesFrom
 from-in-time P t zero k = omega arith
 from-in-time P t (suc n) k = go (eqb (passStores P t (tableAfter P t k)) 0) (from-in-time P t n (suc k))
   where
-    go : (b : Bool) → passesFrom P t n (suc k) ≤ suc (suc k + n) → pick b (suc k) (passesFrom P t n (suc k)) ≤ suc (k + suc n)
+    go : (b : Bool) → passesFrom P t n (suc k) ≤ suc (suc k + n) → cond b (suc k) (passesFrom P t n (suc k)) ≤ suc (k + suc n)
     go true l = omega arith
     go false l = omega arith
 

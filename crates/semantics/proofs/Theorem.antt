@@ -1,7 +1,7 @@
 -- Demand 3, in the order of its proof:
 --   good-content     a cell's content is the number of what the table says of its configuration
---   settled-found    a settled table holds each outcome that has a derivation
---   settled-right    so what it says of a configuration is right
+--   closed-found     a settled table holds each outcome that has a derivation
+--   closed-right     so what it says of a configuration is right
 --   main-said        what is decided from main's cell is what the table says of main on the whole trace
 --   decides          the verdict and the table when passes end are what evaluating owes
 use Prim.Native.Nat.{ℕ, _<_}
@@ -9,19 +9,23 @@ use native.Mathlib.Omega.{arith}
 use mathlib.Core.Path.{_≡_, refl, sym, ap, _∙_}
 use mathlib.Core.List.{List, [], _∷_, _++_}
 use mathlib.Core.Option.{Option, none, some}
-use lib.ListN.{length, getElem?, getD, List·getD-append}
+use lib.ListN.{length, getElem?, getD, length-append, List·getD-append}
 use lib.Dec.{le→leb}
 use Rattle.semantics.specs.declared.Outcome.{Outcome}
 use Rattle.semantics.specs.declared.Outcome.the-variants.{Truth, Suffix, Failed}
 use Rattle.semantics.specs.Language.{truth, Function, Program, IsMain, Trace, Value, suffix, InKinds, WellKinded}
-use Rattle.semantics.specs.Table.{cellOf, contentOf, onlyOfKind, outcomeOf, held, Table, lookup, finalTable, decisionOf, mainDecision, verdictOf}
+use Rattle.semantics.specs.Numbering.{cellOf}
+use Rattle.semantics.specs.Cells.{contentOf, onlyOfKind, outcomeOf, outcomeIn}
+use Rattle.semantics.specs.Visits.{Table, lookup}
+use Rattle.semantics.specs.Passes.{finalTable}
+use Rattle.semantics.specs.Verdicts.{decisionOf, mainDecision, verdictOf}
 use Rattle.semantics.specs.Demand.{Gives, Right, Decides}
 use Rattle.semantics.proofs.Unique.{derives-unique}
 use Rattle.semantics.proofs.Bodies.{complete}
 use Rattle.semantics.proofs.Numbering.{cell-lt, main-cell}
 use Rattle.semantics.proofs.Cells.{code-held}
 use Rattle.semantics.proofs.Visits.{lookup-held, lookup-kinds, lookup-heldAt, Good}
-use Rattle.semantics.proofs.Passes.{Settled, settled-closed, still-settled, first-still, count-in-time, final-good, final-still}
+use Rattle.semantics.proofs.Passes.{Closed, closed-calls, still-closed, first-still, count-in-time, final-good, final-still}
 
 pub good-content : (P : Program) (t : Trace) (T : Table) → Good P t T → (g : ℕ) (f : Function) (vs : List Value)
     → getElem? P g ≡ some f → InKinds t (f .params) vs → getD T (cellOf t P g vs) 0 ≡ contentOf (lookup P t T g vs)
@@ -31,16 +35,16 @@ good-content P t T ok g f vs q h = go (lookup P t T g vs) refl
     go none l = ok .clean (cellOf t P g vs) (cell-lt t P g f vs q h) (sym (lookup-heldAt P t T g vs f q h) ∙ l)
     go (some o) l = code-held t (f .result) (getD T (cellOf t P g vs) 0) o (sym (lookup-held P t T g vs f q) ∙ l) .0
 
-module _ (P : Program) (t : Trace) (wk : WellKinded P) (T : Table) (ok : Good P t T) (st : Settled P t T)
+module _ (P : Program) (t : Trace) (wk : WellKinded P) (T : Table) (ok : Good P t T) (st : Closed P t T)
     (g : ℕ) (f : Function) (vs : List Value) (q : getElem? P g ≡ some f) (h : InKinds t (f .params) vs) where
-  pub settled-found : (o : Outcome) → Gives P t f vs o → lookup P t T g vs ≡ some o
-  settled-found o d =
-      let closed = settled-closed P t wk T ok st in
+  pub closed-found : (o : Outcome) → Gives P t f vs o → lookup P t T g vs ≡ some o
+  closed-found o d =
+      let closed = closed-calls P t wk T ok st in
       closed g vs f o q h (complete P t wk (lookup P t T) (lookup-kinds P t T) closed d (f .params) (f .result) h (wk g f q))
 
-  pub settled-right : Right P t f vs (lookup P t T g vs)
-  settled-right = record {
-    undecided = (λ z o d. let s = settled-found o d in let y : _≡_ {A = ℕ} 0 1 = cc in omega arith, λ n. none-if n (lookup P t T g vs) refl);
+  pub closed-right : Right P t f vs (lookup P t T g vs)
+  closed-right = record {
+    undecided = (λ z o d. let s = closed-found o d in let y : _≡_ {A = ℕ} 0 1 = cc in omega arith, λ n. none-if n (lookup P t T g vs) refl);
     decided = λ o l. ok .sound g vs f o q h l;
     only = λ o o′ d d′. derives-unique P t d d′;
   }
@@ -58,7 +62,7 @@ only-truth t t′ (some (Failed x)) = refl
 
 pub main-said : (P : Program) (t : Trace) (T : Table) (f : Function) → getElem? P 0 ≡ some f → IsMain f
     → mainDecision (getD T (length t) 0) ≡ decisionOf (lookup P t T 0 (suffix (length t) ∷ []))
-unfolding mainDecision held
+unfolding mainDecision outcomeIn
 main-said P t T f q m =
     rw (lookup-held P t T 0 (suffix (length t) ∷ []) f q, m .result, main-cell t P f q (m .params))
     (ap decisionOf (only-truth [] t (outcomeOf (getD T (length t) 0))))
@@ -72,16 +76,17 @@ unfolding verdictOf
 decides P t wk isMain rest =
     let T = finalTable P t in
     let ok = final-good P t wk in
-    let st = still-settled P t T (final-still P t wk) in
+    let st = still-closed P t T (final-still P t wk) in
     record {
       main = λ f q.
           let m = isMain f q in
           let vs = suffix (length t) ∷ [] in
-          (lookup P t T 0 vs, main-said P t T f q m, settled-right P t wk T ok st 0 f vs q (main-kinds t f m));
+          (lookup P t T 0 vs, main-said P t T f q m, closed-right P t wk T ok st 0 f vs q (main-kinds t f m));
+      within = λ g f vs q h. omega (arith, cell-lt t P g f vs q h, ok .long, length-append T rest);
       cell = λ g f vs q h.
           let l : cellOf t P g vs < length T = omega (arith, cell-lt t P g f vs q h, ok .long) in
           let content = List·getD-append T rest 0 (cellOf t P g vs) l ∙ good-content P t T ok g f vs q h in
-          (lookup P t T g vs, content, settled-right P t wk T ok st g f vs q h);
+          (lookup P t T g vs, content, closed-right P t wk T ok st g f vs q h);
       passes = first-still P t wk;
       inTime = count-in-time P t;
     }

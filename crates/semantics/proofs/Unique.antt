@@ -1,6 +1,6 @@
 -- A derivation's outcome is unique. Assumes nothing of program and trace.
 --   given-injective, given-not-failed    a value as an outcome
---   derives-unique, derives-all-unique   of an expression, of arguments
+--   derives-unique                       an outcome of an expression
 use Prim.Native.Nat.{ℕ, zero}
 use native.Mathlib.Omega.{arith}
 use mathlib.Core.Path.{_≡_, refl, sym, ap, subst}
@@ -13,7 +13,7 @@ use Rattle.semantics.specs.declared.Outcome.{Outcome}
 use Rattle.semantics.specs.declared.Outcome.the-variants.{Truth, Suffix, Failed}
 use Rattle.semantics.specs.Language.{Op, Expr, constant, empty, param, op, ifte, call, Args, noArgs, arg, Function, Program, Trace, Value, bit, suffix, given}
 use Rattle.semantics.specs.Rules.{applied, Arguments, values, failed, Derives, r-constant, r-empty, r-param, r-op, r-op-error, r-then, r-else, r-if-error, r-call, r-call-error, DerivesAll, r-none, r-arg, r-arg-error, r-later-error}
-use Rattle.semantics.proofs.Induction.{Kept, derived, derived-all}
+use Rattle.semantics.proofs.Induction.{Kept, derived}
 
 pub given-injective : (v w : Value) → given v ≡ given w → v ≡ w
 given-injective (bit a) (bit b) e = cc
@@ -125,6 +125,3 @@ module _ (P : Program) (t : Trace) where
 
   pub derives-unique : {env : List Value} {e : Expr} {o o′ : Outcome} → Derives P t env e o → Derives P t env e o′ → o ≡ o′
   derives-unique {o′ = o′} d d′ = derived only d o′ d′
-
-  pub derives-all-unique : {env : List Value} {xs : Args} {r r′ : Arguments} → DerivesAll P t env xs r → DerivesAll P t env xs r′ → r ≡ r′
-  derives-all-unique {r′ = r′} s s′ = derived-all only s r′ s′

@@ -19,7 +19,10 @@ use lib.Seq.{getD-set-same, getD-set-other}
 use Rattle.semantics.specs.declared.Outcome.{Outcome}
 use Rattle.semantics.specs.Language.{Function, Program, Trace, Value, InKinds, WellKinded}
 use Rattle.semantics.specs.Rules.{Derives}
-use Rattle.semantics.specs.Table.{cells, cellOf, Config, configAt, codeOf, ofKind, held, bodyOutcome, Table, lookup, heldIn, heldAt, ifUndecided, stored, storedIn, oneIf, visit}
+use Rattle.semantics.specs.Numbering.{cells, cellOf, Config, configAt}
+use Rattle.semantics.specs.Cells.{codeOf, ofKind, outcomeIn}
+use Rattle.semantics.specs.Bodies.{bodyOutcome}
+use Rattle.semantics.specs.Visits.{Table, lookup, heldIn, heldAt, ifUndecided, stored, storedIn, oneIf, visit}
 use Rattle.semantics.proofs.Bodies.{KindCalls, kinded, SoundCalls, sound}
 use Rattle.semantics.proofs.Numbering.{config-cell, Place, place}
 use Rattle.semantics.proofs.Cells.{held-code, code-held}
@@ -27,14 +30,15 @@ use Rattle.semantics.proofs.Cells.{held-code, code-held}
 -- ---- A table, read by configuration and by cell
 
 module _ (P : Program) (t : Trace) (T : Table) where
-  pub lookup-held : (g : ℕ) (vs : List Value) (f : Function) → getElem? P g ≡ some f → lookup P t T g vs ≡ held t (f .result) (getD T (cellOf t P g vs) 0)
+  pub lookup-held : (g : ℕ) (vs : List Value) (f : Function) → getElem? P g ≡ some f
+      → lookup P t T g vs ≡ outcomeIn t (f .result) (getD T (cellOf t P g vs) 0)
   unfolding lookup
   lookup-held g vs f e = rw e
 
   pub lookup-kinds : KindCalls P t (lookup P t T)
   lookup-kinds g vs f o e h = code-held t (f .result) (getD T (cellOf t P g vs) 0) o (sym (lookup-held g vs f e) ∙ h) .1
 
-  pub heldAt-place : (c : ℕ) (r : Place t P c) → heldAt P t T c ≡ held t (r .f .result) (getD T c 0)
+  pub heldAt-place : (c : ℕ) (r : Place t P c) → heldAt P t T c ≡ outcomeIn t (r .f .result) (getD T c 0)
   unfolding heldAt
   heldAt-place c r = rw (r .config)
 
@@ -44,7 +48,7 @@ module _ (P : Program) (t : Trace) (T : Table) where
   lookup-heldAt g vs f e h = lookup-held g vs f e ∙ rw (config-cell t P g f vs e h)
 
 held-zero : (t : Trace) (k : Option Config) → heldIn t k 0 ≡ none
-unfolding held
+unfolding outcomeIn
 held-zero t none = refl
 held-zero t (some k) = refl
 
@@ -98,11 +102,13 @@ module _ (P : Program) (t : Trace) (wk : WellKinded P) (T : Table) (c : ℕ) (r 
 
   pub stored-kind : dec.T (ofKind t (r .f .result) o)
   stored-kind =
-      kinded P t (lookup P t T) (lookup-kinds P t T) (r .f .params) (r .vs) (r .areIn) (r .f .body) (r .f .result) o (wk (r .g) (r .f) (r .isFun)) gives
+      kinded P t (lookup P t T) (lookup-kinds P t T) (r .f .params) (r .vs) (r .areIn) (r .f .body) (r .f .result) o
+      (wk (r .g) (r .f) (r .isFun)) gives
 
   pub stored-derives : SoundCalls P t (lookup P t T) → Derives P t (r .vs) (r .f .body) o
   stored-derives ok =
-      sound P t (lookup P t T) (lookup-kinds P t T) ok (r .f .params) (r .vs) (r .areIn) (r .f .body) (r .f .result) o (wk (r .g) (r .f) (r .isFun)) gives
+      sound P t (lookup P t T) (lookup-kinds P t T) ok (r .f .params) (r .vs) (r .areIn) (r .f .body) (r .f .result) o
+      (wk (r .g) (r .f) (r .isFun)) gives
 
   held-same : c < length T → heldAt P t (set T c (codeOf o)) c ≡ some o
   held-same lt = heldAt-place P t (set T c (codeOf o)) c r ∙ rw (getD-set-same T c (codeOf o) 0 lt) (held-code t (r .f .result) o stored-kind)

@@ -9,7 +9,11 @@ use Rattle.semantics.specs.declared.Outcome.{Outcome}
 use Rattle.semantics.specs.declared.Verdict.{Verdict}
 use Rattle.semantics.specs.Language.{Function, Program, Trace, Value, suffix, InKinds}
 use Rattle.semantics.specs.Rules.{Derives}
-use Rattle.semantics.specs.Table.{Table, cells, cellOf, contentOf, tableAfter, passStores, decisionOf}
+use Rattle.semantics.specs.Numbering.{cells, cellOf}
+use Rattle.semantics.specs.Cells.{contentOf}
+use Rattle.semantics.specs.Visits.{Table, passStores}
+use Rattle.semantics.specs.Passes.{tableAfter}
+use Rattle.semantics.specs.Verdicts.{decisionOf}
 
 -- 'a derivation .. with a function's body on given values of its parameters at the root'
 abbrev pub Gives : Program → Trace → Function → List Value → Outcome → Type 0
@@ -34,7 +38,8 @@ pub record Decides (P : Program) (t : Trace) (verdict : Verdict) (table : Table)
   -- the verdict, of main on the whole trace
   pub main : (f : Function) → getElem? P 0 ≡ some f
       → (said : Option Outcome) × (verdict .decision ≡ decisionOf said) × Right P t f (suffix (length t) ∷ []) said
-  -- each configuration's cell
+  -- each configuration's cell, which lies in the table
+  pub within : (g : ℕ) (f : Function) (vs : List Value) → getElem? P g ≡ some f → InKinds t (f .params) vs → cellOf t P g vs < length table
   pub cell : (g : ℕ) (f : Function) (vs : List Value) → getElem? P g ≡ some f → InKinds t (f .params) vs
       → (said : Option Outcome) × (getD table (cellOf t P g vs) 0 ≡ contentOf said) × Right P t f vs said
   -- the passes

@@ -1,9 +1,19 @@
 -- What a rule means, in the order of document 01:
 --   Language   kinds, expressions, functions, programs; values and outcomes; well-kinded programs
 --   Rules      'Evaluation': the rules, as finite derivations
---   Table      'Table and passes': configurations and their numbers, cells, passes, the verdict
+--   Numbering  'Table and passes': configurations and their numbers
+--   Cells      the content of a cell
+--   Bodies     the outcome of a body with its calls looked up
+--   Visits     a pass, on a table with any content
+--   Passes     the passes from zeros, and the pass count
+--   Verdicts   the verdict, and its number
 --   Demand     what evaluating owes (demand 3)
 pub mod Language
 pub mod Rules
-pub mod Table
+pub mod Numbering
+pub mod Cells
+pub mod Bodies
+pub mod Visits
+pub mod Passes
+pub mod Verdicts
 pub mod Demand

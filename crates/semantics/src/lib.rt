@@ -1,7 +1,11 @@
 // What a rule comes to: the outcomes of document 01 as enums, the verdict that holds them, and the
 // numbers that stand for them in a cell of the table and in a record.
 ghost use mathlib.Core.Path.{_≡_};
-ghost use Rattle.semantics.specs.Table.{codeOf, verdictNumber, mainDecision};
+ghost use Rattle.semantics.specs.Cells.{codeOf};
+ghost use Rattle.semantics.specs.Verdicts.{verdictNumber, mainDecision};
+
+// The most cells of a table.
+pub const MOST_CELLS: u64 = 16777216;
 
 // 'head of empty' and 'tail of empty'.
 pub enum Error {

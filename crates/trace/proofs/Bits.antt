@@ -1,4 +1,5 @@
 -- Laws of the bits of a number:
+--   bit-past               a number of n binary digits has no bit past them
 --   bit-binary             bit k of a number is its k-th binary digit
 --   binary-bound           a number of n binary digits is below 2 ^ n
 --   binary-snoc            one more digit at the high end
@@ -8,12 +9,19 @@ use mathlib.Core.Path.{_≡_, sym, ap, _∙_}
 use mathlib.Core.Bool.{Bool, true, false}
 use mathlib.Core.List.{List, [], _∷_, _++_}
 use Prim.Native.Nat.{ℕ, zero, suc, _+_, _*_, _/_, _%_, _^_, _<_, _≤_}
-use native.Mathlib.Nat.{zero-div, pow-succ', mul-left-comm, one-mul, mod-eq-of-lt}
+use native.Mathlib.Nat.{pow-le-pow-right, div-eq-of-lt, zero-div, pow-succ', mul-left-comm, one-mul, mod-eq-of-lt}
 use native.Mathlib.Omega.{arith}
 use lib.Dec.{eqb}
 use lib.ListN.{length, getD}
 use lib.Pow.{shr-shr, shl-exact}
 use Rattle.trace.specs.{bitOf, digit, binary, withBit}
+
+pub bit-past : (n i x : ℕ) → x < 2 ^ n → n ≤ i → bitOf i x ≡ false
+unfolding bitOf
+bit-past n i x low past =
+    let wide = pow-le-pow-right {n = 2} (omega arith) past in
+    let zero-part : x / 2 ^ i ≡ 0 = div-eq-of-lt (omega (arith, low, wide)) in
+    rw zero-part
 
 half : (b : Bool) (m : ℕ) → (digit b + 2 * m) / 2 ≡ m
 half false m = omega arith

@@ -36,7 +36,8 @@ samples-at bytes (suc n) i h = ⊎-elim last (earlier (samples-at bytes n i)) (e
     last : i ≡ n → getD (samples bytes n ++ (sampleAt bytes n ∷ [])) i false ≡ sampleAt bytes i
     last e = getD-at (samples bytes n) (sampleAt bytes n) [] false i (length-samples bytes n ∙ sym e) ∙ ap (sampleAt bytes) (sym e)
 
-    earlier : (i < n → getD (samples bytes n) i false ≡ sampleAt bytes i) → i < n → getD (samples bytes n ++ (sampleAt bytes n ∷ [])) i false ≡ sampleAt bytes i
+    earlier : (i < n → getD (samples bytes n) i false ≡ sampleAt bytes i) → i < n
+        → getD (samples bytes n ++ (sampleAt bytes n ∷ [])) i false ≡ sampleAt bytes i
     earlier ih l = List·getD-append (samples bytes n) (sampleAt bytes n ∷ []) false i (omega (arith, length-samples bytes n)) ∙ ih l
 
 pub sample-past : (bytes : List ℕ) (i : ℕ) → length bytes ≤ i / 8 → false ≡ sampleAt bytes i
@@ -76,7 +77,8 @@ sample-pack bits rest i h =
     let below : j < k = omega arith in
     let within : j < length (packed k bits) = omega (arith, length-packed k bits) in
     let e : 8 * j + r ≡ i = omega arith in
-    let byte : getD (packed k bits ++ rest) j 0 ≡ binary (take 8 (drop (8 * j) bits)) = List·getD-append (packed k bits) rest 0 j within ∙ packed-at k bits j below in
+    let byte : getD (packed k bits ++ rest) j 0 ≡ binary (take 8 (drop (8 * j) bits)) =
+    List·getD-append (packed k bits) rest 0 j within ∙ packed-at k bits j below in
     ap (bitOf r) byte
     ∙ bit-binary (take 8 (drop (8 * j) bits)) r
     ∙ getD-take 8 (drop (8 * j) bits) r false (omega arith)
@@ -98,7 +100,8 @@ pub write-past : (bytes : List ℕ) (i : ℕ) (b : Bool) → length bytes ≤ i 
 unfolding withSample
 write-past bytes i b h = sym (set-out bytes (i / 8) _ h)
 
-pub write-stored : (bytes : List ℕ) (i : ℕ) (b : Bool) {v : ℕ} → v ≡ withBit (i % 8) (getD bytes (i / 8) 0) b → set bytes (i / 8) v ≡ withSample bytes i b
+pub write-stored : (bytes : List ℕ) (i : ℕ) (b : Bool) {v : ℕ} → v ≡ withBit (i % 8) (getD bytes (i / 8) 0) b
+    → set bytes (i / 8) v ≡ withSample bytes i b
 unfolding withSample
 write-stored bytes i b e = ap (set bytes (i / 8)) e
 
@@ -109,7 +112,8 @@ pack-chunk bits h =
     let e : (length bits + 7) / 8 ≡ suc ((length (drop 8 bits) + 7) / 8) = omega (arith, length-drop 8 bits) in
     rw e
 
-into-chunk : (x : ℕ) (out : List ℕ) (bits : List Bool) → 8 ≤ length bits → packedInto (x ∷ out) bits ≡ binary (take 8 bits) ∷ packedInto out (drop 8 bits)
+into-chunk : (x : ℕ) (out : List ℕ) (bits : List Bool) → 8 ≤ length bits
+    → packedInto (x ∷ out) bits ≡ binary (take 8 bits) ∷ packedInto out (drop 8 bits)
 unfolding packedInto bytesFor
 into-chunk x out bits h =
     let e : (length bits + 7) / 8 ≡ suc ((length (drop 8 bits) + 7) / 8) = omega (arith, length-drop 8 bits) in

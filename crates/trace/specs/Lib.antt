@@ -26,7 +26,7 @@ samples bytes (suc n) = samples bytes n ++ (sampleAt bytes n ∷ [])
 
 -- ---- Packing
 
--- a sample as a number
+-- a Bool as a number, as a sample is
 abbrev pub digit : Bool → ℕ
 digit false = 0
 digit true = 1

@@ -2,7 +2,7 @@
 // writing one sample is defined for every index; past the bytes nothing is read or written.
 ghost use mathlib.Core.Path.{_≡_};
 ghost use Prim.Native.Nat.{_<_};
-ghost use Rattle.trace.specs.{bytesFor, sampleAt, withBit, withSample};
+ghost use Rattle.trace.specs.{bytesFor, bitOf, sampleAt, withBit, withSample};
 
 // The most samples that a trace or a ring has.
 pub const MOST_SAMPLES: usize = 4095;
@@ -12,6 +12,17 @@ pub fn bytes_for(n: usize) -> usize
     ensures { λ r. ⌜ r ≡ bytesFor n ⌝ }
 {
     if n % 8 == 0 { n / 8 } else { n / 8 + 1 }
+}
+
+// Bit i of a number, counted from the lowest; past its 64 bits there are zeros.
+pub fn bit(number: u64, i: u64) -> bool
+    ensures { λ r. ⌜ r ≡ bitOf i number ⌝ }
+{
+    if i < 64 {
+        (number >> i) % 2 == 1
+    } else {
+        false
+    }
 }
 
 // Sample i, and false past the bytes.

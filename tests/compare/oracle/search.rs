@@ -69,7 +69,7 @@ struct Search<'a> {
 }
 
 /// The number of values of a kind.
-fn radix(kind: Kind, n: usize) -> u64 {
+pub(super) fn radix(kind: Kind, n: usize) -> u64 {
     match kind {
         Kind::Bool => 2,
         Kind::List => n as u64 + 1,
@@ -77,7 +77,7 @@ fn radix(kind: Kind, n: usize) -> u64 {
 }
 
 /// The number of configurations of a function.
-fn configurations(function: &Function, n: usize) -> u64 {
+pub(super) fn configurations(function: &Function, n: usize) -> u64 {
     function
         .parameters
         .iter()

@@ -23,8 +23,11 @@ returns : tie.Need-returns
 returns c =
     let s = c .before .before .before .before .before in
     let text = tooLongWords ++ newline in
-    rw (too-long (s .args .archive .now) (c .before .before .before .if1 .taken))
-    (c .put .ensures .0 ∙ room-place 0 text (s .args .out .now) (omega (arith, out-size c)), c .put .ensures .1 ∙ front-put text (s .args .out .now) (omega (arith, out-size c)))
+    rw (too-long (s .args .archive .now) (c .before .before .before .if1 .taken)) (
+      c .put .ensures .0 ∙ room-place 0 text (s .args .out .now) (omega (arith, out-size c)),
+      c .put .ensures .1
+          ∙ front-put text (s .args .out .now) (omega (arith, out-size c)),
+    )
 
 slice-aggregate-lines : tie.Need-slice-aggregate-lines
 slice-aggregate-lines c = search needs
@@ -33,7 +36,8 @@ lines-requires : tie.Need-lines-requires
 lines-requires c κs = search needs
 
 returns-2 : tie.Need-returns-2
-returns-2 c = let s = c .before .before .before .before .before .before in rw (listed-whole (s .args .archive .now) (c .before .before .before .before .if1 .left)) (c .before .lines .ensures)
+returns-2 c = let s = c .before .before .before .before .before .before in
+    rw (listed-whole (s .args .archive .now) (c .before .before .before .before .if1 .left)) (c .before .lines .ensures)
 
 pub list-spec : {M : Type 1} → statement M
 list-spec =

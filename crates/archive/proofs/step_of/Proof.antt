@@ -33,10 +33,12 @@ enum-known-refusal : tie.Need-enum-known-refusal
 enum-known-refusal c = search needs
 
 returns-2 : tie.Need-returns-2
-returns-2 c = step-some _ (c .before .before .before .before .if1 .left) (sym (c .before .before .before .read .ensures) ∙ c .before .parts .given .1)
+returns-2 c = step-some _ (c .before .before .before .before .if1 .left)
+    (sym (c .before .before .before .read .ensures .0) ∙ c .before .parts .given .1)
 
 returns-3 : tie.Need-returns-3
-returns-3 c = step-some _ (c .before .before .before .before .if1 .left) (sym (c .before .before .before .read .ensures) ∙ c .before .refusal .given .1)
+returns-3 c = step-some _ (c .before .before .before .before .if1 .left)
+    (sym (c .before .before .before .read .ensures .0) ∙ c .before .refusal .given .1)
 
 pub step-of-spec : {M : Type 1} → statement M
 step-of-spec =

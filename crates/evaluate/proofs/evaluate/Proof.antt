@@ -1,19 +1,15 @@
 -- `evaluate` meets its contract: a refusal, or the verdict of a settled evaluation, with demand 3.
 use native.Mathlib.Omega.{arith}
-use lib.ListN.{length, drop}
-use Rattle.trace.specs.{samples}
-use Rattle.semantics.specs.Table.{cells}
-use Rattle.rule.specs.Reading.{programFrom}
-use Rattle.evaluate.specs.Evaluate.{programIn}
+use lib.ListN.{length}
 use Rattle.evaluate.specs.Settled.{Settled}
-use Rattle.evaluate.proofs.Evaluating.{evaluate-refused, evaluate-passed, no-verdict, verdict-decides}
+use Rattle.evaluate.proofs.Evaluating.{evaluate-refused, evaluate-passed}
 use borrow.Author.Needs.{needs}
 use Rattle.evaluate.proofs.evaluate.Statement.{statement}
 use Rattle.evaluate.proofs.evaluate.Tie as tie
 
 -- a check that passes has settled the evaluation
 settled : (c : tie.After-enum-told) → let start = c .before .before .before .before .before .before .before .before in
-    Settled (start .args .program .now) (start .args .trace .now) (start .args .n) (c .before .before .before .before .prepare .result .layout) (c .before .before .before .before .prepare .result .cells) (length (start .args .table .now))
+    Settled (start .args .program .now) (start .args .trace .now) (start .args .n) (c .before .before .before .before .prepare .result .outline) (c .before .before .before .before .prepare .result .cells) (length (start .args .table .now))
 settled c = c .before .before .before .before .prepare .ensures .1 (c .enum-told .given .1)
 
 prepare-requires : tie.Need-prepare-requires
@@ -34,8 +30,7 @@ decide-requires c κs = settled (c .before)
 returns : tie.Need-returns
 returns c =
     let a = c .before .before .before .before .before .before .before .before .before .args in
-    let r = evaluate-refused (a .program .now) (a .trace .now) (a .n) (a .table .now) (c .before .before .before .before .before .prepare .ensures .0) (c .before .check .given .1) in
-    (r .0, (r .1, λ v e. absurd (no-verdict e)))
+    evaluate-refused (a .program .now) (a .trace .now) (a .n) (a .table .now) (c .before .before .before .before .before .prepare .ensures .0) (c .before .check .given .1)
 
 same-length : tie.Need-same-length
 same-length c = search needs
@@ -45,8 +40,15 @@ returns-2 c =
     let a = c .before .before .before .before .before .before .before .before .before .before .before .before .args in
     let decided = c .before .before .decide .ensures in
     let told = c .before .before .before .before in
-    let r = evaluate-passed (a .program .now) (a .trace .now) (a .n) (a .table .now) (told .before .before .before .before .prepare .ensures .0) (told .enum-told .given .1) (decided .0) (decided .1) in
-    (r .0, (r .1, verdict-decides (settled told) (drop (cells (samples (a .trace .now) (a .n)) (programIn (programFrom (a .program .now)))) (a .table .now)) (decided .0) (decided .1)))
+    evaluate-passed
+    (a .program .now)
+    (a .trace .now)
+    (a .n)
+    (a .table .now)
+    (told .before .before .before .before .prepare .ensures .0)
+    (told .enum-told .given .1)
+    (decided .0)
+    (decided .1)
 
 pub evaluate-spec : {M : Type 1} → statement M
 evaluate-spec =

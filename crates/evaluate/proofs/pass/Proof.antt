@@ -9,7 +9,7 @@ use Rattle.evaluate.proofs.pass.Tie as tie
 
 -- a check that passes has settled the evaluation
 settled : (c : tie.After-enum-told) → let start = c .before .before .before .before .before .before .before .before in
-    Settled (start .args .program .now) (start .args .trace .now) (start .args .n) (c .before .before .before .before .prepare .result .layout) (c .before .before .before .before .prepare .result .cells) (length (start .args .table .now))
+    Settled (start .args .program .now) (start .args .trace .now) (start .args .n) (c .before .before .before .before .prepare .result .outline) (c .before .before .before .before .prepare .result .cells) (length (start .args .table .now))
 settled c = c .before .before .before .before .prepare .ensures .1 (c .enum-told .given .1)
 
 prepare-requires : tie.Need-prepare-requires

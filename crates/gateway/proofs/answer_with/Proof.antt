@@ -1,10 +1,9 @@
 -- `answer_with` meets its contract, by the two cases of an answer.
-use mathlib.Core.Path.{ap, sym, _∙_}
+use mathlib.Core.Path.{refl, ap}
 use mathlib.Core.List.{[], _∷_}
-use denote.Ref.{now}
+use Rattle.evaluate.specs.Evaluate.{evaluatedAnswer}
+use Rattle.gateway.proofs.Answers.{told, untold}
 use borrow.Author.Needs.{needs}
-use Rattle.evaluate.specs.Evaluate.{evaluatedNumber}
-use Rattle.gateway.specs.{answerLeft}
 use Rattle.gateway.proofs.answer_with.Statement.{statement}
 use Rattle.gateway.proofs.answer_with.Tie as tie
 
@@ -28,18 +27,12 @@ number-requires c κs = search needs
 
 returns : tie.Need-returns
 returns c =
-    let given = c .before .before .before .before .evaluated .given in (
-      ap evaluatedNumber (sym (given .1)),
-      ap (λ x. x ∷ given .0 .0 .passes ∷ []) (c .before .before .verdict-number .ensures)
-          ∙ ap (λ e. answerLeft e (now (c .before .before .before .before .before .before .args .answer))) (sym (given .1)),
-    )
+    let given = c .before .before .before .before .evaluated .given in
+    told evaluatedAnswer (given .1) _ refl (ap (λ x. x ∷ given .0 .0 .passes ∷ []) (c .before .before .verdict-number .ensures))
 
 returns-2 : tie.Need-returns-2
-returns-2 c =
-    let given = c .before .before .evaluated2 .given in (
-      c .number .ensures ∙ ap evaluatedNumber (sym (given .1)),
-      ap (λ e. answerLeft e (now (c .before .before .before .before .args .answer))) (sym (given .1)),
-    )
+returns-2 c = untold evaluatedAnswer (c .before .before .evaluated2 .given .1) _ (c .before .before .evaluated2 .given .0 .0) refl
+    (c .number .ensures)
 
 pub answer-with-spec : {M : Type 1} → statement M
 answer-with-spec =

@@ -1,8 +1,7 @@
 -- `parts_with` meets its contract, by the two cases of an answer.
-use mathlib.Core.Path.{ap, sym, _∙_}
-use denote.Ref.{now}
-use Rattle.record.specs.Reading.{readNumber}
-use Rattle.gateway.specs.{partsLeft}
+use mathlib.Core.Path.{refl}
+use Rattle.record.specs.Reading.{readAnswer}
+use Rattle.gateway.proofs.Answers.{told, untold}
 use borrow.Author.Needs.{needs}
 use Rattle.gateway.proofs.parts_with.Statement.{statement}
 use Rattle.gateway.proofs.parts_with.Tie as tie
@@ -26,14 +25,10 @@ number-requires : tie.Need-number-requires
 number-requires c κs = search needs
 
 returns : tie.Need-returns
-returns c =
-    let given = c .before .before .before .before .before .before .before .before .reading .given in
-    (ap readNumber (sym (given .1)), ap (λ r. partsLeft r (now (c .before .before .before .before .before .before .before .before .before .before .args .parts))) (sym (given .1)))
+returns c = told readAnswer (c .before .before .before .before .before .before .before .before .reading .given .1) _ refl refl
 
 returns-2 : tie.Need-returns-2
-returns-2 c =
-    let given = c .before .before .reading2 .given in
-    (c .number .ensures ∙ ap readNumber (sym (given .1)), ap (λ r. partsLeft r (now (c .before .before .before .before .args .parts))) (sym (given .1)))
+returns-2 c = untold readAnswer (c .before .before .reading2 .given .1) _ (c .before .before .reading2 .given .0 .0) refl (c .number .ensures)
 
 pub parts-with-spec : {M : Type 1} → statement M
 parts-with-spec =

@@ -1,7 +1,7 @@
 -- `sik_ring_add` meets its contract: the state goes in and comes back as two numbers.
-use mathlib.Core.Path.{_∙_}
-use lib.ListN.{length}
-use Rattle.gateway.proofs.Rings.{stored-left, refused-left}
+use mathlib.Core.Path.{refl, sym, _∙_}
+use Rattle.ring.specs.{addedAnswer}
+use Rattle.gateway.proofs.Answers.{told, untold}
 use borrow.Author.Needs.{needs}
 use Rattle.gateway.proofs.sik_ring_add.Statement.{statement}
 use Rattle.gateway.proofs.sik_ring_add.Tie as tie
@@ -33,10 +33,9 @@ same-length c = search needs
 returns : tie.Need-returns
 returns c =
     let added = c .before .before .before .before .before .before in
-    let s = added .before .before .before .before .before .before in
-    let told = rw (added .before .before .ring-of .ensures) at (added .add .ensures) in
-    let left = stored-left (length (s .args .slots .now)) (s .args .state .now) (told .0) (told .1 .0) (c .before .before .added .given .1) in
-    (left .0, (told .1 .1, left .1))
+    let owed = rw (added .before .before .ring-of .ensures) at (added .add .ensures) in
+    let left = told addedAnswer (sym (owed .0) ∙ c .before .before .added .given .1) _ refl refl in
+    (left .0, (owed .1 .1, left .1))
 
 same-length-2 : tie.Need-same-length-2
 same-length-2 c = search needs
@@ -44,10 +43,10 @@ same-length-2 c = search needs
 returns-2 : tie.Need-returns-2
 returns-2 c =
     let added = c .before .before .before .before .before .before in
-    let s = added .before .before .before .before .before .before in
-    let told = rw (added .before .before .ring-of .ensures) at (added .add .ensures) in
-    let left = refused-left (length (s .args .slots .now)) (s .args .state .now) (told .0) (told .1 .0) (c .before .before .added2 .given .1) in
-    (c .number .ensures ∙ left .0, (told .1 .1, left .1))
+    let owed = rw (added .before .before .ring-of .ensures) at (added .add .ensures) in
+    let left = untold addedAnswer (sym (owed .0) ∙ c .before .before .added2 .given .1) _ (c .before .before .added2 .given .0 .0) refl
+    (c .number .ensures) in
+    (left .0, (owed .1 .1, left .1))
 
 pub sik-ring-add-spec : {M : Type 1} → statement M
 sik-ring-add-spec =

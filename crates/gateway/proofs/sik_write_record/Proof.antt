@@ -1,8 +1,8 @@
 -- `sik_write_record` meets its contract: what `written_with` makes of what recording answers.
-use mathlib.Core.Path.{ap, _∙_}
 use denote.Ref.{now}
-use Rattle.record.specs.Recording.{writtenNumber}
-use Rattle.gateway.specs.{writtenLeft}
+use Rattle.refusal.specs.{valuesLeft}
+use Rattle.record.specs.Recording.{writtenAnswer}
+use Rattle.gateway.proofs.Answers.{told-as}
 use borrow.Author.Needs.{needs}
 use Rattle.gateway.proofs.sik_write_record.Statement.{statement}
 use Rattle.gateway.proofs.sik_write_record.Tie as tie
@@ -20,10 +20,24 @@ same-length-2 : tie.Need-same-length-2
 same-length-2 c = search needs
 
 returns : tie.Need-returns
+unfolding valuesLeft
 returns c =
-    let told = c .before .before .before .before .before .before .write .ensures in (
-      c .written-with .ensures .0 ∙ ap writtenNumber (told .0),
-      (told .1 .0, (told .1 .1 .0, c .written-with .ensures .1 ∙ ap (λ r. writtenLeft r (now (c .before .before .before .before .before .before .before .before .before .before .before .before .before .before .args .answer))) (told .0))),
+    let old = now (c .before .before .before .before .before .before .before .before .before .before .before .before .before .before .args .answer) in
+    let told = c .before .before .before .before .before .before .write .ensures in
+    let w = c .written-with .ensures in
+    let all = told-as writtenAnswer old (w .0) (w .1) (told .0) in (
+      all .0,
+      (
+        told .1 .1 .0,
+        (
+          told .1 .1 .1 .0,
+          (
+            all .1,
+            λ enough P a f t. let d =
+                told .1 .1 .1 .1 enough P a f t in (d .0, told-as writtenAnswer old (w .0) (w .1) (d .1), d .2),
+          ),
+        ),
+      ),
     )
 
 pub sik-write-record-spec : {M : Type 1} → statement M

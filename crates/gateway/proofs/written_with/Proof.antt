@@ -1,9 +1,8 @@
 -- `written_with` meets its contract, by the two cases of an answer.
-use mathlib.Core.Path.{ap, sym, _∙_}
+use mathlib.Core.Path.{refl, ap}
 use mathlib.Core.List.{[], _∷_}
-use denote.Ref.{now}
-use Rattle.record.specs.Recording.{writtenNumber}
-use Rattle.gateway.specs.{writtenLeft}
+use Rattle.record.specs.Recording.{writtenAnswer}
+use Rattle.gateway.proofs.Answers.{told, untold}
 use borrow.Author.Needs.{needs}
 use Rattle.gateway.proofs.written_with.Statement.{statement}
 use Rattle.gateway.proofs.written_with.Tie as tie
@@ -28,16 +27,11 @@ number-requires c κs = search needs
 
 returns : tie.Need-returns
 returns c =
-    let given = c .before .before .before .before .written .given in (
-      ap writtenNumber (sym (given .1)),
-      ap (λ x. given .0 .0 ∷ x ∷ given .0 .1 .0 .passes ∷ []) (c .before .before .verdict-number .ensures)
-          ∙ ap (λ r. writtenLeft r (now (c .before .before .before .before .before .before .args .answer))) (sym (given .1)),
-    )
+    let given = c .before .before .before .before .written .given in
+    told writtenAnswer (given .1) _ refl (ap (λ x. given .0 .0 ∷ x ∷ given .0 .1 .0 .passes ∷ []) (c .before .before .verdict-number .ensures))
 
 returns-2 : tie.Need-returns-2
-returns-2 c =
-    let given = c .before .before .written2 .given in
-    (c .number .ensures ∙ ap writtenNumber (sym (given .1)), ap (λ r. writtenLeft r (now (c .before .before .before .before .args .answer))) (sym (given .1)))
+returns-2 c = untold writtenAnswer (c .before .before .written2 .given .1) _ (c .before .before .written2 .given .0 .0) refl (c .number .ensures)
 
 pub written-with-spec : {M : Type 1} → statement M
 written-with-spec =

@@ -15,10 +15,18 @@ returns : tie.Need-returns
 returns c = simp (sym (c .before .verdict-number .ensures), ne-eqb _ _ (c .if1 .taken))
 
 returns-2 : tie.Need-returns-2
-returns-2 c = simp (sym (c .before .before .before .before .verdict-number .ensures), eq-eqb _ _ (c .before .before .before .if1 .left), ne-eqb _ _ (c .if2 .taken))
+returns-2 c = simp (
+  sym (c .before .before .before .before .verdict-number .ensures),
+  eq-eqb _ _ (c .before .before .before .if1 .left),
+  ne-eqb _ _ (c .if2 .taken),
+)
 
 returns-3 : tie.Need-returns-3
-returns-3 c = simp (sym (c .before .before .before .before .verdict-number .ensures), eq-eqb _ _ (c .before .before .before .if1 .left), eq-eqb _ _ (c .if2 .left))
+returns-3 c = simp (
+  sym (c .before .before .before .before .verdict-number .ensures),
+  eq-eqb _ _ (c .before .before .before .if1 .left),
+  eq-eqb _ _ (c .if2 .left),
+)
 
 pub compare-spec : {M : Type 1} → statement M
 compare-spec = tie.close (tie.spec cast-if1 verdict-number-requires returns returns-2 returns-3)

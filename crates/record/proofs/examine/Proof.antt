@@ -53,7 +53,9 @@ returns-2 : tie.Need-returns-2
 returns-2 c =
     let ready = c .before .before .before .before .before .before in
     let found = ready .before .before .before .before .before .before .before .before in
-    verdict-promised _ _ _ (found .before .before .parts .ensures) (found .parts2 .given .1) (ready .before .before .before .before .part .ensures) (ready .before .before .before .part2 .ensures) (ready .evaluate .ensures .0) (ready .evaluate .ensures .1 .0) (ready .evaluate .ensures .1 .1) (c .before .before .verdict .given .1) (c .compare .ensures)
+    verdict-promised _ _ _ (found .before .before .parts .ensures) (found .parts2 .given .1)
+    (ready .before .before .before .before .part .ensures) (ready .before .before .before .part2 .ensures) (ready .evaluate .ensures .0)
+    (ready .evaluate .ensures .1 .1 .0) (c .before .before .verdict .given .1) (c .compare .ensures)
 
 same-length-2 : tie.Need-same-length-2
 same-length-2 c = search needs
@@ -62,7 +64,9 @@ returns-3 : tie.Need-returns-3
 returns-3 c =
     let ready = c .before .before .before .before .before .before .before in
     let found = ready .before .before .before .before .before .before .before .before in
-    refused-promised _ _ _ (found .before .before .parts .ensures) (found .parts2 .given .1) (ready .before .before .before .before .part .ensures) (ready .before .before .before .part2 .ensures) (ready .evaluate .ensures .0) (ready .evaluate .ensures .1 .0) (ready .evaluate .ensures .1 .1) (c .before .before .before .refusal2 .given .1) (c .before .part3 .ensures) (c .refused-by .ensures)
+    refused-promised _ _ _ (found .before .before .parts .ensures) (found .parts2 .given .1)
+    (ready .before .before .before .before .part .ensures) (ready .before .before .before .part2 .ensures) (ready .evaluate .ensures .0)
+    (ready .evaluate .ensures .1 .1 .0) (c .before .before .before .refusal2 .given .1) (c .before .part3 .ensures) (c .refused-by .ensures)
 
 pub examine-spec : {M : Type 1} → statement M
 examine-spec =

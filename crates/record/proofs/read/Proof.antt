@@ -1,6 +1,6 @@
 -- `read` meets its contract: the trailer, then the program.
 use mathlib.Core.Path.{sym, _∙_}
-use Rattle.record.proofs.Answers.{located-refused, program-refused, program-passed}
+use Rattle.record.proofs.Answers.{located-refused, program-refused, program-passed, read-owed}
 use borrow.Author.Needs.{needs}
 use Rattle.record.proofs.read.Statement.{statement}
 use Rattle.record.proofs.read.Tie as tie
@@ -27,17 +27,21 @@ enum-told : tie.Need-enum-told
 enum-told c = search needs
 
 returns : tie.Need-returns
-returns c = located-refused _ (c .before .before .before .parts .ensures) (c .before .refusal .given .1)
+returns c = read-owed _ (located-refused _ (c .before .before .before .parts .ensures) (c .before .refusal .given .1))
 
 returns-2 : tie.Need-returns-2
 returns-2 c =
     let told = c .before .before .before in
-    program-refused _ (told .before .before .before .before .before .before .parts .ensures) (told .before .before .before .before .parts2 .given .1) (rw (told .before .part .ensures) at (sym (told .check-program .ensures .0) ∙ c .before .check .given .1))
+    read-owed _ (program-refused _ (told .before .before .before .before .before .before .parts .ensures)
+    (told .before .before .before .before .parts2 .given .1)
+    (rw (told .before .part .ensures) at (sym (told .check-program .ensures .0) ∙ c .before .check .given .1)))
 
 returns-3 : tie.Need-returns-3
 returns-3 c =
     let told = c .before .before in
-    program-passed _ (told .before .before .before .before .before .before .parts .ensures) (told .before .before .before .before .parts2 .given .1) (rw (told .before .part .ensures) at (sym (told .check-program .ensures .0) ∙ c .enum-told .given .1))
+    read-owed _ (program-passed _ (told .before .before .before .before .before .before .parts .ensures)
+    (told .before .before .before .before .parts2 .given .1)
+    (rw (told .before .part .ensures) at (sym (told .check-program .ensures .0) ∙ c .enum-told .given .1)))
 
 pub read-spec : {M : Type 1} → statement M
 read-spec =

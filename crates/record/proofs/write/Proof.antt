@@ -1,18 +1,17 @@
 -- `write` meets its contract: 5 to 21 are judged first, then 22, and only then is anything stored.
-use mathlib.Core.Path.{_≡_, sym, ap, _∙_}
+use mathlib.Core.Path.{_≡_, sym, _∙_}
 use Prim.Native.Nat.{_+_, _≤_}
 use native.Mathlib.Omega.{arith}
 use lib.ListN.{length}
 use Rattle.refusal.specs.declared.Check.the-variants.{Passed}
 use Rattle.trace.specs.{bytesFor}
 use Rattle.rule.specs.Form.{AreBytes}
-use Rattle.evaluate.specs.declared.Evaluated.the-variants as evaluated
 use Rattle.evaluate.specs.Evaluate.{evaluateCheck}
 use Rattle.record.specs.Recording.{workedOut, recordOf, writeCheck}
 use Rattle.record.specs.Steps.{Fillable}
 use Rattle.record.proofs.Answers.{evaluation-refused, evaluation-passed}
 use Rattle.record.proofs.Filling.{size-is}
-use Rattle.record.proofs.Writing.{evaluation-first, room-last, room-enough, refused-written, refused-table, passed-written, no-record, verdict-in, fillable}
+use Rattle.record.proofs.Writing.{evaluation-first, room-last, room-enough, refused-written, refused-table, passed-written, written-owed, fillable}
 use borrow.Author.Needs.{needs}
 use Rattle.record.proofs.write.Statement.{statement}
 use Rattle.record.proofs.write.Tie as tie
@@ -31,30 +30,41 @@ sized : (c : tie.After-bytes-for) → let a = c .before .before .before .before 
 unfolding recordOf
 sized c =
     let s = c .before .before .before .before .before in
-    size-is (s .args .program .now) (s .args .trace .now) (s .args .n) (s .args .label) (workedOut (s .args .program .now) (s .args .trace .now) (s .args .n)) (c .bytes-for .ensures) (label-size s)
+    size-is (s .args .program .now) (s .args .trace .now) (s .args .n) (s .args .label)
+    (workedOut (s .args .program .now) (s .args .trace .now) (s .args .n)) (c .bytes-for .ensures) (label-size s)
 
 -- where evaluating gave a verdict: the start of the function, the check, the verdict, and what the record needs
 abbrev start : tie.After-verdict → tie.Start
 start w = w .before .before .before .before .before .before .before .before .before .before .before .before
 
 worked : (w : tie.After-verdict) → let a = start w .args in
-    (evaluateCheck (a .program .now) (a .trace .now) (a .n) (length (a .table .now)) ≡ Passed) × (workedOut (a .program .now) (a .trace .now) (a .n) ≡ w .verdict .given .0 .0)
+    (evaluateCheck (a .program .now) (a .trace .now) (a .n) (length (a .table .now)) ≡ Passed)
+    × (workedOut (a .program .now) (a .trace .now) (a .n) ≡ w .verdict .given .0 .0)
 worked w =
     let a = start w .args in
-    evaluation-passed (a .program .now) (a .trace .now) (a .n) (length (a .table .now)) (w .before .before .before .before .evaluate .ensures .0) (w .verdict .given .1)
+    evaluation-passed (a .program .now) (a .trace .now) (a .n) (length (a .table .now))
+    (w .before .before .before .before .evaluate .ensures .0) (w .verdict .given .1)
 
 passes : (w : tie.After-verdict) → let a = start w .args in
     writeCheck (a .program .now) (a .trace .now) (a .n) (a .label) (length (a .table .now)) (length (a .out .now)) ≡ Passed
 passes w =
     let a = start w .args in
-    room-enough (a .program .now) (a .trace .now) (a .n) (a .label) (a .table .now) (a .out .now) (worked w .0) (sized (w .before .before .before .before .before .before .before)) (w .before .before .before .before .before .before .if1 .left)
+    room-enough (a .program .now) (a .trace .now) (a .n) (a .label) (a .table .now) (a .out .now) (worked w .0)
+    (sized (w .before .before .before .before .before .before .before)) (w .before .before .before .before .before .before .if1 .left)
 
 fills : (w : tie.After-verdict) → let a = start w .args in
     Fillable (a .program .now) (a .trace .now) (a .n) (a .label) (w .verdict .given .0 .0) (a .out .now)
 fills w =
     let a = start w .args in
-    let are : AreBytes (a .program .now) = λ i. omega (arith, w .before .before .before .before .before .before .before .before .before .before .before .shared-slice-known .given i) in
-    fillable (a .program .now) (a .trace .now) (a .n) (a .label) (a .table .now) (a .out .now) are (label-size (start w)) (passes w) (worked w .1) (rw (← sized (w .before .before .before .before .before .before .before)) (w .before .before .before .before .before .before .if1 .left))
+    let are : AreBytes (a .program .now) =
+    λ i. omega (
+      arith,
+      w .before .before .before .before .before .before .before .before .before .before .before .shared-slice-known .given
+          i,
+    ) in
+    fillable (a .program .now) (a .trace .now) (a .n) (a .label) (a .table .now) (a .out .now) are (label-size (start w)) (passes w)
+    (worked w .1) (rw (← sized (w .before .before .before .before .before .before .before))
+    (w .before .before .before .before .before .before .if1 .left))
 
 bytes-for-requires : tie.Need-bytes-for-requires
 bytes-for-requires c κs = search needs
@@ -81,15 +91,19 @@ returns : tie.Need-returns
 returns c =
     let told = c .before .before .before in
     let a = told .before .before .before .before .before .before .before .args in
-    let r = refused-written (a .program .now) (a .trace .now) (a .n) (a .label) (a .table .now) (a .out .now) (evaluation-first (a .program .now) (a .trace .now) (a .n) (a .label) (a .table .now) (a .out .now) (sym (told .check .ensures) ∙ c .before .refusal .given .1)) in
-    (r .0, (r .1 .0, (r .1 .1, λ size v e. absurd (no-record e))))
+    let r = refused-written (a .program .now) (a .trace .now) (a .n) (a .label) (a .table .now) (a .out .now)
+    (evaluation-first (a .program .now) (a .trace .now) (a .n) (a .label) (a .table .now) (a .out .now)
+    (sym (told .check .ensures) ∙ c .before .refusal .given .1)) in
+    written-owed (a .program .now) (a .trace .now) (a .n) (a .label) (a .table .now) (a .out .now) r
 
 returns-2 : tie.Need-returns-2
 returns-2 c =
     let told = c .before .before in
     let a = told .before .before .before .before .before .before .before .args in
-    let r = refused-written (a .program .now) (a .trace .now) (a .n) (a .label) (a .table .now) (a .out .now) (room-last (a .program .now) (a .trace .now) (a .n) (a .label) (a .table .now) (a .out .now) (sym (told .check .ensures) ∙ c .enum-told .given .1) (sized (told .before .before)) (told .before .if1 .taken)) in
-    (r .0, (r .1 .0, (r .1 .1, λ size v e. absurd (no-record e))))
+    let r = refused-written (a .program .now) (a .trace .now) (a .n) (a .label) (a .table .now) (a .out .now)
+    (room-last (a .program .now) (a .trace .now) (a .n) (a .label) (a .table .now) (a .out .now)
+    (sym (told .check .ensures) ∙ c .enum-told .given .1) (sized (told .before .before)) (told .before .if1 .taken)) in
+    written-owed (a .program .now) (a .trace .now) (a .n) (a .label) (a .table .now) (a .out .now) r
 
 evaluate-requires : tie.Need-evaluate-requires
 evaluate-requires c κs = search needs
@@ -113,10 +127,13 @@ returns-3 : tie.Need-returns-3
 returns-3 c =
     let told = c .before .before .before .before .before in
     let a = told .before .before .before .before .before .before .before .before .args in
-    let refused = evaluation-refused (a .program .now) (a .trace .now) (a .n) (length (a .table .now)) (told .evaluate .ensures .0) (c .before .refusal2 .given .1) in
-    let r = refused-written (a .program .now) (a .trace .now) (a .n) (a .label) (a .table .now) (a .out .now) (evaluation-first (a .program .now) (a .trace .now) (a .n) (a .label) (a .table .now) (a .out .now) refused) in
-    let same = refused-table (a .program .now) (a .trace .now) (a .n) (a .label) (a .table .now) (a .out .now) refused (told .evaluate .ensures .1 .0) in
-    (r .0, (r .1 .0, (same ∙ r .1 .1, λ size v e. absurd (no-record e))))
+    let refused = evaluation-refused (a .program .now) (a .trace .now) (a .n) (length (a .table .now)) (told .evaluate .ensures .0)
+    (c .before .refusal2 .given .1) in
+    let r = refused-written (a .program .now) (a .trace .now) (a .n) (a .label) (a .table .now) (a .out .now)
+    (evaluation-first (a .program .now) (a .trace .now) (a .n) (a .label) (a .table .now) (a .out .now) refused) in
+    let same = refused-table (a .program .now) (a .trace .now) (a .n) (a .label) (a .table .now) (a .out .now) refused
+    (told .evaluate .ensures .1 .1 .0) in
+    written-owed (a .program .now) (a .trace .now) (a .n) (a .label) (a .table .now) (a .out .now) (r .0, (r .1 .0, same ∙ r .1 .1))
 
 same-length-2 : tie.Need-same-length-2
 same-length-2 c = search needs
@@ -130,8 +147,9 @@ returns-4 c =
     let s = start w in
     let a = s .args in
     let told = w .before .before .before .before .evaluate .ensures in
-    let r = passed-written (a .program .now) (a .trace .now) (a .n) (a .label) (a .table .now) (a .out .now) (passes w) (sized (w .before .before .before .before .before .before .before)) (worked w .1) (c .before .before .fill .ensures) (told .1 .0) in
-    (r .0, (r .1 .0, (r .1 .1, λ size v e. told .1 .1 v (w .verdict .given .1 ∙ ap evaluated.Verdict (verdict-in e)))))
+    let r = passed-written (a .program .now) (a .trace .now) (a .n) (a .label) (a .table .now) (a .out .now) (passes w)
+    (sized (w .before .before .before .before .before .before .before)) (worked w .1) (c .before .before .fill .ensures) (told .1 .1 .0) in
+    written-owed (a .program .now) (a .trace .now) (a .n) (a .label) (a .table .now) (a .out .now) r
 
 pub write-spec : {M : Type 1} → statement M
 write-spec =

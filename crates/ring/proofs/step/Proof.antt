@@ -17,7 +17,9 @@ add-after c = search needs
 add-count : tie.Need-add-count
 add-count c = search needs
 
-next-place : (c : tie.Joined1) → c .if1 .next ≡ following (eqb (c .before .before .args .ring .next + 1) (c .before .before .args .len)) (c .before .before .args .ring .next + 1)
+next-place : (c : tie.Joined1)
+    → c .if1 .next ≡ following (eqb (c .before .before .args .ring .next + 1) (c .before .before .args .len))
+    (c .before .before .args .ring .next + 1)
 next-place c = ⊎-elim (λ w. simp (eq-eqb _ _ (w .0 .taken)) (w .1)) (λ w. simp (ne-eqb _ _ (w .0 .left)) (w .1)) (c .if1 .came)
 
 returns : tie.Need-returns

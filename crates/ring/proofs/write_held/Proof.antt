@@ -29,7 +29,9 @@ sub-write : tie.Need-sub-write Inv-loop μ-loop
 sub-write c = omega arith
 
 shared-slice-read-write : tie.Need-shared-slice-read-write Inv-loop μ-loop
-shared-slice-read-write c = rw (c .before .before .place .ensures) (place-within _ _ _ (omega (arith, c .before .before .before .before .before .before .before .pre)))
+shared-slice-read-write c =
+    rw (c .before .before .place .ensures)
+    (place-within _ _ _ (omega (arith, c .before .before .before .before .before .before .before .pre)))
 
 write-requires : tie.Need-write-requires Inv-loop μ-loop
 write-requires c κs = tt

@@ -23,19 +23,28 @@ refused-requires-3 : tie.Need-refused-requires-3
 refused-requires-3 c κs = search needs
 
 returns-3 : tie.Need-returns-3
-returns-3 c = answered _ _ (program-none _ (c .before .before .before .before .if1 .left) (c .before .before .before .if2 .left) (c .before .if3 .taken)) (answer-refused _ (c .refused3 .ensures))
+returns-3 c =
+    answered _ _
+    (program-none _ (c .before .before .before .before .if1 .left) (c .before .before .before .if2 .left) (c .before .if3 .taken))
+    (answer-refused _ (c .refused3 .ensures))
 
 refused-requires-4 : tie.Need-refused-requires-4
 refused-requires-4 c κs = search needs
 
 returns-4 : tie.Need-returns-4
-returns-4 c = answered _ _ (program-many _ (c .before .before .before .before .before .if1 .left) (c .before .before .before .before .if2 .left) (c .before .before .if3 .left) (c .before .if4 .taken)) (answer-refused _ (c .refused4 .ensures))
+returns-4 c =
+    answered _ _
+    (program-many _ (c .before .before .before .before .before .if1 .left) (c .before .before .before .before .if2 .left)
+    (c .before .before .if3 .left) (c .before .if4 .taken)) (answer-refused _ (c .refused4 .ensures))
 
 check-functions-requires : tie.Need-check-functions-requires
 check-functions-requires c κs = search needs
 
 returns-5 : tie.Need-returns-5
-returns-5 c = answered _ _ (program-counted _ (c .before .before .before .before .before .if1 .left) (c .before .before .before .before .if2 .left) (c .before .before .if3 .left) (c .before .if4 .left)) (c .check-functions .ensures)
+returns-5 c =
+    answered _ _
+    (program-counted _ (c .before .before .before .before .before .if1 .left) (c .before .before .before .before .if2 .left)
+    (c .before .before .if3 .left) (c .before .if4 .left)) (c .check-functions .ensures)
 
 pub check-program-spec : {M : Type 1} → statement M
 check-program-spec =

@@ -1,7 +1,7 @@
 -- `code` meets its contract: each arm answers the number of the outcome that it was taken for.
 use mathlib.Core.Path.{sym, ap}
 use borrow.Author.Needs.{needs}
-use Rattle.semantics.specs.Table.{codeOf}
+use Rattle.semantics.specs.Cells.{codeOf}
 use Rattle.semantics.proofs.code.Statement.{statement}
 use Rattle.semantics.proofs.code.Tie as tie
 

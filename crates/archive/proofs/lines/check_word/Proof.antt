@@ -63,7 +63,8 @@ returns-3 c =
     let number = c .before .before .before .number in
     let here = c .before .before .before .before .before .before in
     let begun = here .before .before .before in
-    put-known (begun .args .at) (begun .args .out .now) (ap checkWord (here .checked .given .1) ∙ ap decimal (sym (number .ensures))) (begun .pre) (c .before .before .put-decimal .ensures)
+    put-known (begun .args .at) (begun .args .out .now) (ap checkWord (here .checked .given .1) ∙ ap decimal (sym (number .ensures)))
+    (begun .pre) (c .before .before .put-decimal .ensures)
 
 pub check-word-spec : {M : Type 1} → statement M
 check-word-spec =

@@ -24,7 +24,9 @@ abbrev μ-loop : tie.MeasureT-loop
 abbrev start : tie.After-examine Inv-loop μ-loop → tie.Start Inv-loop μ-loop
 start c = c .before .before .before .before .before .before .before .before
 
-abbrev turn : (c : tie.After-examine Inv-loop μ-loop) → let t = c .before .before .before .before .loop in Turn (start c .args .archive .now) (start c .args .out .now) (t .out) (t .table) (t .left) (t .listed) (t .at)
+abbrev turn : (c : tie.After-examine Inv-loop μ-loop) → let t =
+    c .before .before .before .before .loop in Turn (start c .args .archive .now) (start c .args .out .now) (t .out) (t .table) (t .left)
+    (t .listed) (t .at)
 turn c = c .before .before .before .before .loop .inv
 
 -- the table keeps its length
@@ -33,7 +35,8 @@ tables c = let kept : length (c .examine .last .1 .0) ≡ length (c .before .bef
 
 -- a refused record, and one that is read
 stopped : (c : tie.After-reading Inv-loop μ-loop) → let e = c .before .before .before .before in let t = e .before .before .before .before .loop in
-    Left (start e .args .out .now) 0 (linesOf 0 (walk (start e .args .archive .now))) (t .out) (t .at) (stopLine (t .listed + 1) (c .reading .given .0 .0))
+    Left (start e .args .out .now) 0 (linesOf 0 (walk (start e .args .archive .now))) (t .out) (t .at)
+    (stopLine (t .listed + 1) (c .reading .given .0 .0))
 stopped c =
     let e = c .before .before .before .before in
     turn-stop (turn e) (e .before .before .before .loop-test .taken) (reading-told (turn e) (e .examine .ensures .0) ∙ c .reading .given .1)
@@ -68,10 +71,12 @@ same-length : tie.Need-same-length Inv-loop μ-loop
 same-length c = let e = c .before .before .before .before .before .before .before .before .before in tables e ∙ sym (start e .pre .1)
 
 returns : tie.Need-returns Inv-loop μ-loop
-returns c = let e = c .before .before .before .before .before .before .before .before .before in front-end (stopped (c .before .before .before .before .before)) (fits (start e)) (c .before .before .stop-line .ensures)
+returns c = let e = c .before .before .before .before .before .before .before .before .before in front-end
+    (stopped (c .before .before .before .before .before)) (fits (start e)) (c .before .before .stop-line .ensures)
 
 same-length-2 : tie.Need-same-length-2 Inv-loop μ-loop
-same-length-2 c = let s = start (c .before .before .before .before .before .before .before .before .before) in ap length (returns c .1) ∙ length-begins (linesOf 0 (walk (s .args .archive .now))) (s .args .out .now) (fits s)
+same-length-2 c = let s = start (c .before .before .before .before .before .before .before .before .before) in ap length (returns c .1)
+    ∙ length-begins (linesOf 0 (walk (s .args .archive .now))) (s .args .out .now) (fits s)
 
 enum-known-reading-2 : tie.Need-enum-known-reading-2 Inv-loop μ-loop
 enum-known-reading-2 c = search needs
@@ -86,28 +91,44 @@ cast-record-line : tie.Need-cast-record-line Inv-loop μ-loop
 cast-record-line c = record { fits = omega (arith, turn (c .before .before .before .before .before .before .before .before) .few) }
 
 record-line-requires : tie.Need-record-line-requires Inv-loop μ-loop
-record-line-requires c κs = turn-room (turn (c .before .before .before .before .before .before .before .before)) (recorded (c .before .before .before .before)) (checked-told (turn (c .before .before .before .before .before .before .before .before)) (c .before .before .before .before .before .before .before .before .examine .ensures .0))
+record-line-requires c κs =
+    turn-room (turn (c .before .before .before .before .before .before .before .before)) (recorded (c .before .before .before .before))
+    (checked-told (turn (c .before .before .before .before .before .before .before .before))
+    (c .before .before .before .before .before .before .before .before .examine .ensures .0))
 
 add-listed : tie.Need-add-listed Inv-loop μ-loop
 add-listed c = record { fits = omega (arith, turn (c .before .before .before .before .before .before .before .before .before .before .before) .few) }
 
 loop-less : tie.Need-loop-less Inv-loop μ-loop
-loop-less c = omega (arith, start-below (turn (c .before .before .before .before .before .before .before .before .before .before .before)) (recorded (c .before .before .before .before .before .before .before)))
+loop-less c = omega (
+  arith,
+  start-below (turn (c .before .before .before .before .before .before .before .before .before .before .before))
+      (recorded (c .before .before .before .before .before .before .before)),
+)
 
 loop-again : tie.Need-loop-again Inv-loop μ-loop
-loop-again c = turn-next (turn (c .before .before .before .before .before .before .before .before .before .before .before)) (recorded (c .before .before .before .before .before .before .before)) (checked-told (turn (c .before .before .before .before .before .before .before .before .before .before .before)) (c .before .before .before .before .before .before .before .before .before .before .before .examine .ensures .0)) (tables (c .before .before .before .before .before .before .before .before .before .before .before)) (c .before .before .record-line .ensures)
+loop-again c = turn-next (turn (c .before .before .before .before .before .before .before .before .before .before .before))
+    (recorded (c .before .before .before .before .before .before .before))
+    (checked-told (turn (c .before .before .before .before .before .before .before .before .before .before .before))
+    (c .before .before .before .before .before .before .before .before .before .before .before .examine .ensures .0))
+    (tables (c .before .before .before .before .before .before .before .before .before .before .before))
+    (c .before .before .record-line .ensures)
 
 end-line-requires : tie.Need-end-line-requires Inv-loop μ-loop
 end-line-requires c κs = turn-end (c .before .before .loop .inv) (c .before .loop-test .left) .room
 
 same-length-3 : tie.Need-same-length-3 Inv-loop μ-loop
-same-length-3 c = c .before .before .before .before .before .loop .inv .cells ∙ sym (c .before .before .before .before .before .before .before .before .before .pre .1)
+same-length-3 c = c .before .before .before .before .before .loop .inv .cells
+    ∙ sym (c .before .before .before .before .before .before .before .before .before .pre .1)
 
 returns-2 : tie.Need-returns-2 Inv-loop μ-loop
-returns-2 c = front-end (turn-end (c .before .before .before .before .before .loop .inv) (c .before .before .before .before .loop-test .left)) (fits (c .before .before .before .before .before .before .before .before .before)) (c .before .before .end-line .ensures)
+returns-2 c = front-end (turn-end (c .before .before .before .before .before .loop .inv)
+    (c .before .before .before .before .loop-test .left)) (fits (c .before .before .before .before .before .before .before .before .before))
+    (c .before .before .end-line .ensures)
 
 same-length-4 : tie.Need-same-length-4 Inv-loop μ-loop
-same-length-4 c = let s = c .before .before .before .before .before .before .before .before .before in ap length (returns-2 c .1) ∙ length-begins (linesOf 0 (walk (s .args .archive .now))) (s .args .out .now) (fits s)
+same-length-4 c = let s = c .before .before .before .before .before .before .before .before .before in ap length (returns-2 c .1)
+    ∙ length-begins (linesOf 0 (walk (s .args .archive .now))) (s .args .out .now) (fits s)
 
 pub lines-spec : {M : Type 1} → statement M
 lines-spec =

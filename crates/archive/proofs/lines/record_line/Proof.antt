@@ -62,7 +62,8 @@ at-last : (c : tie.After-put) → Rest (start-last c) (c .put .last .0) (c .put 
 at-last c =
     let s = start-last c in
     let worded = c .before .before .before .before .before in
-    let left = left-more (verdictWord (s .args .parts .verdict)) (at-fourth (worded .before .before .before .before)) (worded .verdict-word .ensures) in
+    let left = left-more (verdictWord (s .args .parts .verdict)) (at-fourth (worded .before .before .before .before))
+    (worded .verdict-word .ensures) in
     left-put space left (c .put .ensures)
 
 field-requires : tie.Need-field-requires

@@ -11,7 +11,8 @@ use Rattle.archive.proofs.lines.stop_line.Tie as tie
 -- what is left of the line after its word
 named : (c : tie.After-put)
     → let begun = c .before .before .before .before .args in
-    Left (begun .out .now) (begun .at) (stopLine (begun .ordinal) (begun .refusal)) (c .put .last .0) (c .put .result) (field (decimal (begun .ordinal)) ++ (decimal (numberOf (begun .refusal)) ++ newline))
+    Left (begun .out .now) (begun .at) (stopLine (begun .ordinal) (begun .refusal)) (c .put .last .0) (c .put .result)
+    (field (decimal (begun .ordinal)) ++ (decimal (numberOf (begun .refusal)) ++ newline))
 unfolding stopLine
 named c =
     let begun = c .before .before .before .before in

@@ -95,7 +95,8 @@ returns-5 c =
     let here = c .before .before .before .before .before in
     let begun = here .before .before in
     let r = here .match .rest in
-    put-known (begun .args .at) (begun .args .out .now) (other (begun .args .verdict) (r .0 .0 .0 .1) (r .0 .0 .1) (r .0 .1) (r .1)) (begun .pre) (c .before .before .put5 .ensures)
+    put-known (begun .args .at) (begun .args .out .now) (other (begun .args .verdict) (r .0 .0 .0 .1) (r .0 .0 .1) (r .0 .1) (r .1))
+    (begun .pre) (c .before .before .put5 .ensures)
 
 pub verdict-word-spec : {M : Type 1} → statement M
 verdict-word-spec =

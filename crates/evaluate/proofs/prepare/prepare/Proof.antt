@@ -6,7 +6,7 @@ use Rattle.refusal.proofs.Numbers.{refused}
 use Rattle.semantics.specs.Language.{Program}
 use Rattle.rule.specs.Form.{Accepted}
 use Rattle.rule.proofs.Programs.{passed-accepted}
-use Rattle.evaluate.proofs.Preparing.{program-refused, trace-refused, table-left, trace-passed, functions-few, total-is, settled}
+use Rattle.evaluate.proofs.Preparing.{program-refused, trace-refused, table-left, trace-passed, total-is, settled}
 use borrow.Author.Needs.{needs}
 use Rattle.evaluate.proofs.prepare.prepare.Statement.{statement}
 use Rattle.evaluate.proofs.prepare.prepare.Tie as tie
@@ -46,10 +46,7 @@ cast-cells-of c =
     omega (arith, trace-passed (a .n) (length (a .trace .now)) (c .before .before .before .before .before .before .trace-check .ensures) (c .before .before .before .before .enum-told2 .given .1) .0)
 
 cells-of-requires : tie.Need-cells-of-requires
-cells-of-requires c κs = (
-  functions-few (accepted (c .before .before .before .before .before .before .before) .1) (c .before .before .before .before .before .before .before .before .before .before .check-program .ensures .1),
-  trace-passed _ _ (c .before .before .before .before .before .before .trace-check .ensures) (c .before .before .before .before .enum-told2 .given .1) .0,
-)
+cells-of-requires c κs = search needs
 
 table-check-requires : tie.Need-table-check-requires
 table-check-requires c κs = search needs
@@ -70,12 +67,14 @@ returns-3 : tie.Need-returns-3
 returns-3 c =
     let a = c .before .before .before .before .before .before .before .before .before .before .before .before .before .before .before .args in
     let program = accepted (c .before .before .before .before .before .before .before .before .before) .1 in
-    let layout = c .before .before .before .before .before .before .before .before .before .before .before .before .check-program .ensures .1 in
+    let outline = c .before .before .before .before .before .before .before .before .before .before .before .before .check-program .ensures .1 in
     let trace = c .before .before .before .before .before .before .before .before .trace-check .ensures in
     let passed = c .before .before .before .before .before .before .enum-told2 .given .1 in
-    let places = c .before .cells-of .ensures in (
-      c .table-check .ensures ∙ sym (table-left (a .program .now) (a .trace .now) (a .n) (a .lent) program trace passed (total-is program layout (a .n) (places .0) (places .1) (a .trace .now))),
-      λ e. settled program layout (a .n) (places .0) (places .1) (a .trace .now) (a .lent) trace passed (c .table-check .ensures) e,
+    let few = trace-passed _ _ trace passed .0 in
+    let places = c .before .cells-of .ensures in
+    let total = total-is program outline (a .n) few (places .0) (places .1) (a .trace .now) in (
+      c .table-check .ensures ∙ sym (table-left (a .program .now) (a .trace .now) (a .n) (a .lent) program trace passed total),
+      λ e. settled program outline (a .n) few (places .0) (places .1) (a .trace .now) (a .lent) trace passed (c .table-check .ensures) e,
     )
 
 pub prepare-spec : {M : Type 1} → statement M

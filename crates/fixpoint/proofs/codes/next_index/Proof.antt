@@ -1,13 +1,14 @@
 -- `next_index` meets its contract: below their bounds the product and the sum fit.
-use Prim.Native.Nat.{ℕ, _*_, _<_, _≤_}
+use Prim.Native.Nat.{ℕ, _-_, _*_, _<_, _≤_}
 use native.Mathlib.Nat.{mul-le-mul}
 use native.Mathlib.Omega.{arith}
 use borrow.Author.Tests.{lt-ltb, le-ltb}
+use Rattle.fixpoint.specs.Mirror.{bound, digitBound}
 use Rattle.fixpoint.proofs.codes.next_index.Statement.{statement}
 use Rattle.fixpoint.proofs.codes.next_index.Tie as tie
 
-product : (index radix : ℕ) → index < 4294967296 → radix < 65536 → index * radix ≤ 4294967295 * 65535
-product index radix h l = mul-le-mul {n₂ = 4294967295} {m₂ = 65535} (omega arith) (omega arith)
+product : (index radix : ℕ) → index < bound → radix < digitBound → index * radix ≤ (bound - 1) * (digitBound - 1)
+product index radix h l = mul-le-mul {n₂ = bound - 1} {m₂ = digitBound - 1} (omega arith) (omega arith)
 
 mul-result : tie.Need-mul-result
 mul-result c = omega (arith, product _ _ (c .before .before .if1 .taken) (c .before .if2 .taken))

@@ -6,7 +6,8 @@ use lib.ListN.{length}
 use borrow.Author.Needs.{needs}
 use borrow.Author.Tests.{eq-eqb, ne-eqb}
 use Rattle.trace.specs.{bitOf}
-use Rattle.fixpoint.proofs.Words.{trace-at, trace-past}
+use Rattle.fixpoint.specs.Mirror.{traceFrom}
+use Rattle.fixpoint.proofs.WordPlaces.{trace-at, trace-past}
 use Rattle.fixpoint.proofs.codes.sample.Statement.{statement}
 use Rattle.fixpoint.proofs.codes.sample.Tie as tie
 
@@ -17,7 +18,7 @@ returns : tie.Need-returns
 unfolding bitOf
 returns c =
     let a = c .before .before .args in
-    let past : length (a .words .now) ≤ 8192 + a .i / 8 = omega (arith, c .before .all .given) in
+    let past : length (a .words .now) ≤ traceFrom + a .i / 8 = omega (arith, c .before .all .given) in
     rw (trace-past (a .words .now) (a .i / 8) past, zero-div (2 ^ (a .i % 8)))
 
 add-if2 : tie.Need-add-if2

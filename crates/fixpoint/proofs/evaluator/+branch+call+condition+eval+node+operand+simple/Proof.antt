@@ -24,18 +24,18 @@ use Rattle.fixpoint.proofs.evaluator.simple.Reads as simple
 use Rattle.fixpoint.proofs.evaluator.simple.Kinds as simple-kinds
 use Rattle.fixpoint.proofs.evaluator.+branch+call+condition+eval+node+operand+simple.Lts-simple as simple-lts
 use Rattle.fixpoint.proofs.codes.at_most_four.Reads as at-most-four-reads
-use Rattle.fixpoint.proofs.codes.bit.Reads as bit-reads
 use Rattle.fixpoint.proofs.codes.digit.Reads as digit-reads
 use Rattle.fixpoint.proofs.codes.head.Reads as head-reads
 use Rattle.fixpoint.proofs.codes.next_index.Reads as next-index-reads
 use Rattle.fixpoint.proofs.codes.null.Reads as null-reads
 use Rattle.fixpoint.proofs.codes.radix.Reads as radix-reads
 use Rattle.fixpoint.proofs.codes.tail.Reads as tail-reads
-use Rattle.fixpoint.proofs.setup.byte_at.Reads as byte-at-reads
-use Rattle.fixpoint.proofs.setup.end_at.Reads as end-at-reads
+use Rattle.fixpoint.proofs.words.byte_at.Reads as byte-at-reads
+use Rattle.fixpoint.proofs.words.end_at.Reads as end-at-reads
 use Rattle.fixpoint.proofs.evaluator.lookup.Reads as lookup-reads
 use Rattle.fixpoint.proofs.evaluator.param.Reads as param-reads
 use Rattle.rule.proofs.node_of.Reads as node-of-reads
+use Rattle.trace.proofs.bit.Reads as bit-reads
 use Rattle.fixpoint.proofs.evaluator.+branch+call+condition+eval+node+operand+simple.{statement}
 use Rattle.fixpoint.proofs.evaluator.+branch+call+condition+eval+node+operand+simple.Tie.{close}
 use Prim.Native.Nat.{_+_, _-_, _*_}
@@ -217,7 +217,7 @@ call-returns-4 : (t : ℕ) → call-lts.Need-returns-4 (call-claims t) (call-at 
 call-returns-4 t c = sym (call-args _ _ _ _ _ _ (c .before .before .before .before .before .before .before .before .before .before .if1 .left) (c .before .before .before .before .before .before .before .at-most-four .ensures) ∙ along-stop (c .before .before .before .before .before .loop .inv) (c .before .before .before .before .loop-test .taken) 4 (c .before .before .before .simple .ensures) (c .if4 .taken) refl)
 
 call-bit-requires : (t : ℕ) → call-lts.Need-bit-requires (call-claims t) (call-at t) call.Post call-Inv-loop call-μ-loop
-call-bit-requires t c κs = omega arith
+call-bit-requires t c κs = search needs
 
 call-radix-requires : (t : ℕ) → call-lts.Need-radix-requires (call-claims t) (call-at t) call.Post call-Inv-loop call-μ-loop
 call-radix-requires t c κs = search needs

@@ -33,25 +33,30 @@ element-copy-out-bit c = search needs
 bit-requires : tie.Need-bit-requires
 bit-requires c κs = search needs
 
-held-requires : tie.Need-held-requires
-held-requires c κs = search needs
+decided-requires : tie.Need-decided-requires
+decided-requires c κs = search needs
 
 returns-3 : tie.Need-returns-3
 returns-3 c =
-    let a = c .before .before .before .before .before .before .before .before .args in
-    c .held .ensures ∙ sym (lookup-held _ _ _ _ _ (c .before .before .before .before .before .before .if1 .left) (c .before .before .before .before .before .if2 .left) (c .before .before .before .bit .ensures) (List·getD-eq-default (a .table .now .now) 0 (c .before .if3 .taken)))
+    let bit = c .before .before .before in
+    let near = bit .before .before in
+    let past = List·getD-eq-default (near .before .before .before .args .table .now .now) 0 (c .before .if3 .taken) in
+    c .decided .ensures ∙ sym (lookup-held _ _ _ _ _ (near .before .if1 .left) (near .if2 .left) (bit .bit .ensures) past)
 
-mul-held : tie.Need-mul-held
-mul-held c = search needs
+mul-decided : tie.Need-mul-decided
+mul-decided c = search needs
 
-shared-slice-read-held : tie.Need-shared-slice-read-held
-shared-slice-read-held c = search needs
+shared-slice-read-decided : tie.Need-shared-slice-read-decided
+shared-slice-read-decided c = search needs
 
-held-requires-2 : tie.Need-held-requires-2
-held-requires-2 c κs = search needs
+decided-requires-2 : tie.Need-decided-requires-2
+decided-requires-2 c κs = search needs
 
 returns-4 : tie.Need-returns-4
-returns-4 c = c .held2 .ensures ∙ sym (lookup-held _ _ _ _ _ (c .before .before .before .before .before .before .before .if1 .left) (c .before .before .before .before .before .before .if2 .left) (c .before .before .before .before .bit .ensures) refl)
+returns-4 c =
+    let bit = c .before .before .before .before in
+    let near = bit .before .before in
+    c .decided2 .ensures ∙ sym (lookup-held _ _ _ _ _ (near .before .if1 .left) (near .if2 .left) (bit .bit .ensures) refl)
 
 pub lookup-spec : {M : Type 1} → statement M
 lookup-spec =
@@ -66,9 +71,9 @@ lookup-spec =
     mul-bit
     element-copy-out-bit
     bit-requires
-    held-requires
+    decided-requires
     returns-3
-    mul-held
-    shared-slice-read-held
-    held-requires-2
+    mul-decided
+    shared-slice-read-decided
+    decided-requires-2
     returns-4)

@@ -1,48 +1,70 @@
--- `pass` meets its contract. Before each turn the functions below g have been visited.
+-- `pass` meets its contract. Before each turn the functions below g have been visited, or passed over.
+use mathlib.Core.Path.{sym, _∙_}
+use mathlib.Core.Logic.{⊎-elim}
 use Prim.Native.Nat.{_-_, _≤_}
 use native.Mathlib.Omega.{arith}
+use lib.ListN.{length}
 use borrow.Author.Needs.{needs}
-use Rattle.fixpoint.specs.Mirror.{setupIn}
-use Rattle.fixpoint.proofs.PassWays.{Covering, covering-start, covering-more, covering-end}
+use Rattle.fixpoint.specs.Mirror.{setupIn, Ready}
+use Rattle.fixpoint.proofs.PassWays.{fits-ready, Covering, covering-start, covering-more, covering-over, covering-end}
 use Rattle.fixpoint.proofs.passes.pass.Statement.{statement}
 use Rattle.fixpoint.proofs.passes.pass.Tie as tie
 
 abbrev Inv-loop : tie.InvT-loop
-Inv-loop words functions table₀ n starts count last stored₀ g₀ table stored g =
+Inv-loop words functions table₀ n starts count len last stored₀ g₀ table stored g =
     Covering (setupIn words functions) n starts table₀ table stored g × (g ≤ last)
 
 abbrev μ-loop : tie.MeasureT-loop
-μ-loop words functions table₀ n starts count last stored₀ g₀ table stored g = last - g
+μ-loop words functions table₀ n starts count len last stored₀ g₀ table stored g = last - g
+
+-- a function that is visited has its cells within the table
+inside : (c : tie.Then1 Inv-loop μ-loop) → let at = c .before .before .before in
+    let a = at .before .before .args in
+    Ready (a .functions .now) (a .n) (at .loop .g) (length (a .table .now))
+inside c = fits-ready (sym (c .before .lies-within .ensures) ∙ c .if1 .taken)
 
 loop-holds : tie.Need-loop-holds Inv-loop μ-loop
 loop-holds c = (covering-start _ _ _ _, omega arith)
 
+lies-within-requires : tie.Need-lies-within-requires Inv-loop μ-loop
+lies-within-requires c κs = search needs
+
 mul-pass-function : tie.Need-mul-pass-function Inv-loop μ-loop
-mul-pass-function c = search needs
+mul-pass-function c = omega (arith, inside (c .before) .below)
 
 element-copy-out-pass-function : tie.Need-element-copy-out-pass-function Inv-loop μ-loop
-element-copy-out-pass-function c = search needs
+element-copy-out-pass-function c = omega (arith, inside (c .before) .below)
 
 pass-function-requires : tie.Need-pass-function-requires Inv-loop μ-loop
 pass-function-requires c κs =
-    let at = c .before .before .before in
-    let ready = at .before .before .pre .each (at .loop .g) (omega (arith, c .before .before .loop-test .taken)) in
-    record { below = ready .below; samples = ready .samples; within = rw (at .loop .inv .0 .same) (ready .within) }
+    let taken = c .before .before in
+    let ready = inside taken in
+    let same = taken .before .before .before .loop .inv .0 .same in
+    record { below = ready .below; samples = ready .samples; within = rw same (ready .within) }
 
 add-stored : tie.Need-add-stored Inv-loop μ-loop
-add-stored c = search needs
+add-stored c =
+    let called = c .before .before in
+    let at = called .before .before .before .before .before .before in
+    omega (arith, at .loop .inv .0 .few, called .pass-function .ensures .1 .1)
 
 add-g : tie.Need-add-g Inv-loop μ-loop
-add-g c = search needs
+add-g c = omega (arith, c .before .before .loop-test .taken)
 
 loop-less : tie.Need-loop-less Inv-loop μ-loop
-loop-less c = search needs
+loop-less c = omega (arith, c .before .before .loop-test .taken)
 
 loop-again : tie.Need-loop-again Inv-loop μ-loop
 loop-again c =
-    let called = c .before .before in
-    let at = called .before .before .before .before in
-    (covering-more (at .loop .inv .0) (called .pass-function .ensures .0) (called .pass-function .ensures .1), omega (arith, called .before .before .before .loop-test .taken))
+    let tested = c .before in
+    let inv = tested .before .before .loop .inv .0 in
+    let test = sym (tested .lies-within .ensures) in (
+      ⊎-elim
+          (λ w. rw (w .6) (rw (w .7) (covering-more inv (test ∙ w .0 .taken) (w .3 .ensures .0) (w .3 .ensures .1))))
+          (λ w. rw (w .1) (rw (w .2) (covering-over inv (test ∙ w .0 .left))))
+          (c .if1 .came),
+      omega (arith, tested .before .loop-test .taken),
+    )
 
 same-length : tie.Need-same-length Inv-loop μ-loop
 same-length c = c .before .loop .inv .0 .same
@@ -57,6 +79,7 @@ pass-spec =
     Inv-loop
     μ-loop
     loop-holds
+    lies-within-requires
     mul-pass-function
     element-copy-out-pass-function
     pass-function-requires

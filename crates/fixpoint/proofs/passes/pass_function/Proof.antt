@@ -6,7 +6,7 @@ use native.Mathlib.Omega.{arith}
 use lib.ListN.{length, getD}
 use borrow.Author.Needs.{needs}
 use Rattle.trace.specs.{bitOf}
-use Rattle.fixpoint.specs.Mirror.{heldCode, setupIn, kindsOf, sizeOf}
+use Rattle.fixpoint.specs.Mirror.{decidedCode, setupIn, kindsOf, sizeOf}
 use Rattle.fixpoint.proofs.SetupLoops.{few-bound}
 use Rattle.fixpoint.proofs.PassWays.{Visited, visited-start, visited-length, visited-few, visited-kept, visited-open, visited-end}
 use Rattle.fixpoint.proofs.passes.pass_function.Statement.{statement}
@@ -29,9 +29,11 @@ within c =
     let s = c .before .before .before .before .before .before .before .before .before in
     omega (arith, s .pre .within, sized (c .before .before), visited-length (c .before .loop .inv .0), c .loop-test .taken)
 
-held-here : (c : tie.After-held Inv-loop μ-loop) → let a = c .before .before .before .before .before .before .before .before .before .before .before .args in
-    c .held .result ≡ heldCode (bitOf 4 (kindsOf (a .functions .now) (a .g))) (a .n) (getD (c .before .before .before .loop .table) (getD (a .functions .now) (a .g) 0 + c .before .before .before .loop .i) 0)
-held-here c = rw (c .before .before .before .before .before .before .bit .ensures) at (c .held .ensures)
+decided-here : (c : tie.After-decided Inv-loop μ-loop) → let at = c .before .before .before in
+    let a = at .before .before .before .before .before .before .before .before .args in
+    let cell = getD (at .loop .table) (getD (a .functions .now) (a .g) 0 + at .loop .i) 0 in
+    c .decided .result ≡ decidedCode (bitOf 4 (kindsOf (a .functions .now) (a .g))) (a .n) cell
+decided-here c = rw (c .before .before .before .before .before .before .bit .ensures) at (c .decided .ensures)
 
 add-kinds : tie.Need-add-kinds Inv-loop μ-loop
 add-kinds c = search needs
@@ -71,17 +73,17 @@ size-requires c κs =
 loop-holds : tie.Need-loop-holds Inv-loop μ-loop
 loop-holds c = (visited-start _ _ _ _ _, omega arith)
 
-add-held : tie.Need-add-held Inv-loop μ-loop
-add-held c = omega (arith, within c)
+add-decided : tie.Need-add-decided Inv-loop μ-loop
+add-decided c = omega (arith, within c)
 
-mul-held : tie.Need-mul-held Inv-loop μ-loop
-mul-held c = omega (arith, within c)
+mul-decided : tie.Need-mul-decided Inv-loop μ-loop
+mul-decided c = omega (arith, within c)
 
-slice-read-held : tie.Need-slice-read-held Inv-loop μ-loop
-slice-read-held c = within (c .before)
+slice-read-decided : tie.Need-slice-read-decided Inv-loop μ-loop
+slice-read-decided c = within (c .before)
 
-held-requires : tie.Need-held-requires Inv-loop μ-loop
-held-requires c κs = search needs
+decided-requires : tie.Need-decided-requires Inv-loop μ-loop
+decided-requires c κs = search needs
 
 fill-requires : tie.Need-fill-requires Inv-loop μ-loop
 fill-requires c κs =
@@ -94,9 +96,10 @@ fill-requires c κs =
 add-stored : tie.Need-add-stored Inv-loop μ-loop
 add-stored c =
     let filled = c .before .before in
-    let held = filled .before .before .before in
-    let inside = held .before .before in
-    let visited = visited-open (inside .before .loop .inv .0) (held-here held) (filled .before .before .if1 .taken) (filled .fill .ensures .0) (filled .fill .ensures .1) in
+    let decided = filled .before .before .before in
+    let inside = decided .before .before in
+    let visited = visited-open (inside .before .loop .inv .0) (decided-here decided) (filled .before .before .if1 .taken)
+    (filled .fill .ensures .0) (filled .fill .ensures .1) in
     omega (arith, visited-few visited, inside .before .before .size .ensures .1, inside .loop-test .taken)
 
 add-i : tie.Need-add-i Inv-loop μ-loop
@@ -109,8 +112,8 @@ loop-again : tie.Need-loop-again Inv-loop μ-loop
 loop-again c =
     let inv = c .before .before .before .before .loop .inv .0 in (
       ⊎-elim
-          (λ w. rw (w .5) (rw (w .6) (visited-open inv (held-here (c .before)) (w .0 .taken) (w .2 .ensures .0) (w .2 .ensures .1))))
-          (λ w. rw (w .1) (rw (w .2) (visited-kept inv (held-here (c .before)) (w .0 .left))))
+          (λ w. rw (w .5) (rw (w .6) (visited-open inv (decided-here (c .before)) (w .0 .taken) (w .2 .ensures .0) (w .2 .ensures .1))))
+          (λ w. rw (w .1) (rw (w .2) (visited-kept inv (decided-here (c .before)) (w .0 .left))))
           (c .if1 .came),
       omega (arith, c .before .before .before .loop-test .taken),
     )
@@ -141,10 +144,10 @@ pass-function-spec =
     element-copy-out-first
     size-requires
     loop-holds
-    add-held
-    mul-held
-    slice-read-held
-    held-requires
+    add-decided
+    mul-decided
+    slice-read-decided
+    decided-requires
     fill-requires
     add-stored
     add-i

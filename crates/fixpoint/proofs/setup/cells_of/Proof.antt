@@ -2,15 +2,27 @@
 use Prim.Native.Nat.{_-_, _≤_}
 use native.Mathlib.Omega.{arith}
 use borrow.Author.Needs.{needs}
-use Rattle.fixpoint.proofs.SetupLoops.{few-bound, Listed, listed-start, listed-more, listed-whole}
+use Rattle.fixpoint.proofs.SetupLoops.{few-bound, Listed, listed-start, listed-more, cells-listed}
 use Rattle.fixpoint.proofs.setup.cells_of.Statement.{statement}
 use Rattle.fixpoint.proofs.setup.cells_of.Tie as tie
 
 abbrev Inv-loop : tie.InvT-loop
-Inv-loop count params kinds n functions₀ total₀ last g₀ functions total g = (g ≤ count) × Listed kinds params n functions total g
+Inv-loop count params kinds n functions₀ total₀ samples last g₀ functions total g = (g ≤ last) × Listed kinds params samples functions total g
 
 abbrev μ-loop : tie.MeasureT-loop
-μ-loop count params kinds n functions₀ total₀ last g₀ functions total g = count - g
+μ-loop count params kinds n functions₀ total₀ samples last g₀ functions total g = last - g
+
+smaller-requires : tie.Need-smaller-requires Inv-loop μ-loop
+smaller-requires c κs = search needs
+
+cast-samples : tie.Need-cast-samples Inv-loop μ-loop
+cast-samples c = omega arith
+
+cast-smaller : tie.Need-cast-smaller Inv-loop μ-loop
+cast-smaller c = omega arith
+
+smaller-requires-2 : tie.Need-smaller-requires-2 Inv-loop μ-loop
+smaller-requires-2 c κs = search needs
 
 loop-holds : tie.Need-loop-holds Inv-loop μ-loop
 loop-holds c = (omega arith, listed-start _ _ _)
@@ -55,7 +67,9 @@ at-most-four-requires : tie.Need-at-most-four-requires Inv-loop μ-loop
 at-most-four-requires c κs = search needs
 
 size-requires : tie.Need-size-requires Inv-loop μ-loop
-size-requires c κs = (rw (c .at-most-four .ensures) (few-bound (c .before .wide2 .result)), c .before .before .before .before .before .before .before .pre .1)
+size-requires c κs =
+    let start = c .before .before .before .before .before .before .before in
+    (rw (c .at-most-four .ensures) (few-bound (c .before .wide2 .result)), omega (arith, start .before .smaller .ensures))
 
 add-total : tie.Need-add-total Inv-loop μ-loop
 add-total c = omega (arith, c .before .before .before .before .before .before .before .loop .inv .1 .bound, c .size .ensures .1)
@@ -67,10 +81,19 @@ loop-less : tie.Need-loop-less Inv-loop μ-loop
 loop-less c = omega arith
 
 loop-again : tie.Need-loop-again Inv-loop μ-loop
-loop-again c = (omega arith, listed-more _ _ _ _ (c .before .before .before .before .before .before .before .loop .inv .1) (c .before .before .before .before .wide .ensures) (c .before .before .wide2 .ensures) (c .before .at-most-four .ensures) (c .size .ensures))
+loop-again c =
+    let wide2 = c .before .before in
+    let wide = wide2 .before .before in
+    let at = wide .before .before .before in
+    let count = c .before .at-most-four .ensures in
+    (omega arith, listed-more _ _ _ _ (at .loop .inv .1) (wide .wide .ensures) (wide2 .wide2 .ensures) count (c .size .ensures))
 
 returns : tie.Need-returns Inv-loop μ-loop
-returns c = listed-whole _ _ _ _ _ (c .before .loop .inv .1) (c .before .loop .inv .0) (c .loop-test .left)
+returns c =
+    let at = c .before in
+    let samples = at .before .before .smaller .ensures in
+    let last = at .before .smaller2 .ensures in
+    cells-listed _ _ _ _ _ samples last (at .loop .inv .1) (at .loop .inv .0) (c .loop-test .left)
 
 pub cells-of-spec : {M : Type 1} → statement M
 cells-of-spec =
@@ -78,6 +101,10 @@ cells-of-spec =
     (tie.spec
     Inv-loop
     μ-loop
+    smaller-requires
+    cast-samples
+    cast-smaller
+    smaller-requires-2
     loop-holds
     element-copy-out-wide
     wide-requires

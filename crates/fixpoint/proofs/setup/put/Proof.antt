@@ -1,19 +1,18 @@
 -- `put` meets its contract. Before turn i the first i bytes have been written.
 use Prim.Native.Nat.{_-_}
 use native.Mathlib.Omega.{arith}
-use lib.ListN.{length}
-use Rattle.rule.proofs.Copying.{Copied, copied-start, copied-more, copied-whole}
+use Rattle.fixpoint.proofs.WordsPut.{Putting, put-start, put-more, put-end}
 use Rattle.fixpoint.proofs.setup.put.Statement.{statement}
 use Rattle.fixpoint.proofs.setup.put.Tie as tie
 
 abbrev Inv-loop : tie.InvT-loop
-Inv-loop bytes at words₀ i₀ words i = Copied words₀ at bytes words i
+Inv-loop bytes count at words₀ i₀ words i = Putting words₀ at bytes count words i
 
 abbrev μ-loop : tie.MeasureT-loop
-μ-loop bytes at words₀ i₀ words i = length bytes - i
+μ-loop bytes count at words₀ i₀ words i = count - i
 
 loop-holds : tie.Need-loop-holds Inv-loop μ-loop
-loop-holds c = copied-start _ _ _
+loop-holds c = put-start _ _ _ _
 
 shared-slice-read-words : tie.Need-shared-slice-read-words Inv-loop μ-loop
 shared-slice-read-words c = omega arith
@@ -37,10 +36,10 @@ loop-less : tie.Need-loop-less Inv-loop μ-loop
 loop-less c = omega arith
 
 loop-again : tie.Need-loop-again Inv-loop μ-loop
-loop-again c = copied-more _ _ _ _ (c .before .before .loop .inv) (c .before .loop-test .taken) (omega arith)
+loop-again c = put-more _ _ _ _ _ (c .before .before .loop .inv) (c .before .loop-test .taken) (omega arith) (omega arith)
 
 returns : tie.Need-returns Inv-loop μ-loop
-returns c = copied-whole _ _ _ _ (c .before .loop .inv) (c .loop-test .left)
+returns c = put-end _ _ _ _ _ (c .before .loop .inv) (c .loop-test .left)
 
 pub put-spec : {M : Type 1} → statement M
 put-spec =

@@ -5,7 +5,7 @@ use mathlib.Core.List.{List, _∷_, _++_}
 use native.Mathlib.Omega.{arith}
 use borrow.Author.Needs.{needs}
 use Rattle.trace.specs.{samples, pack}
-use Rattle.semantics.specs.Table.{verdictNumber}
+use Rattle.semantics.specs.Verdicts.{verdictNumber}
 use Rattle.encoding.specs.{lowFirst}
 use Rattle.encoding.proofs.Putting.{Left, left-room, left-put, left-end, left-front, front-put}
 use Rattle.record.specs.Form.{Contents, trailer, layout}
@@ -16,11 +16,11 @@ use Rattle.record.proofs.fill.fill.Statement.{statement}
 use Rattle.record.proofs.fill.fill.Tie as tie
 
 -- what is recorded, and its layout from each part on
-abbrev held : tie.Start → Contents
-held s = recorded (s .args .program .now) (s .args .trace .now) (s .args .n) (s .args .t4) (s .args .verdict)
+abbrev contents : tie.Start → Contents
+contents s = recorded (s .args .program .now) (s .args .trace .now) (s .args .n) (s .args .t4) (s .args .verdict)
 
 abbrev from-verdict : tie.Start → List ℕ
-from-verdict s = (verdictNumber (s .args .verdict .decision) ∷ lowFirst 4 (s .args .verdict .passes)) ++ trailer (held s)
+from-verdict s = (verdictNumber (s .args .verdict .decision) ∷ lowFirst 4 (s .args .verdict .passes)) ++ trailer (contents s)
 
 abbrev from-label : tie.Start → List ℕ
 from-label s = s .args .t4 ++ from-verdict s
@@ -30,11 +30,11 @@ packed s = pack (samples (s .args .trace .now) (s .args .n))
 
 -- what is left of the record, and the place for it
 abbrev Rest : tie.Start → List ℕ → ℕ → List ℕ → Type 0
-Rest s = Left (s .args .out .now) 0 (layout (held s))
+Rest s = Left (s .args .out .now) 0 (layout (contents s))
 
 at-start : (s : tie.Start) → Rest s (s .args .out .now) 0 (s .args .program .now ++ (packed s ++ from-label s))
 unfolding layout recorded
-at-start s = left-front (s .args .out .now) (layout (held s)) (s .pre .room)
+at-start s = left-front (s .args .out .now) (layout (contents s)) (s .pre .room)
 
 abbrev start-trace : tie.After-put → tie.Start
 start-trace c = c .before .before .before .before .before .before
@@ -57,10 +57,11 @@ at-verdict c = left-put (start-verdict c .args .t4) (at-label (c .before .before
 abbrev start-trailer : tie.After-put3 → tie.Start
 start-trailer c = start-verdict (c .before .before .before .before .before .before)
 
-at-trailer : (c : tie.After-put3) → Rest (start-trailer c) (c .put3 .last .0) (c .put3 .result) (trailer (held (start-trailer c)))
+at-trailer : (c : tie.After-put3) → Rest (start-trailer c) (c .put3 .last .0) (c .put3 .result) (trailer (contents (start-trailer c)))
 at-trailer c =
     let s = start-trailer c in
-    left-put (verdictNumber (s .args .verdict .decision) ∷ lowFirst 4 (s .args .verdict .passes)) (at-verdict (c .before .before .before .before .before .before)) (rw (c .before .before .verdict-bytes .ensures) at (c .put3 .ensures))
+    left-put (verdictNumber (s .args .verdict .decision) ∷ lowFirst 4 (s .args .verdict .passes))
+    (at-verdict (c .before .before .before .before .before .before)) (rw (c .before .before .verdict-bytes .ensures) at (c .put3 .ensures))
 
 few : (c : tie.After-bytes-for) → c .bytes-for .result ≤ 512
 few c = bytes-few (c .before .before .before .before .args .n) (c .before .before .before .before .pre .few) (c .bytes-for .ensures)
@@ -78,7 +79,9 @@ put-requires : tie.Need-put-requires
 put-requires c κs = search needs
 
 put-trace-requires : tie.Need-put-trace-requires
-put-trace-requires c κs = let s = start-trace (c .before .before .before) in omega (arith, left-room (packed s) (from-label s) (at-trace (c .before .before .before)), packed-size (s .args .trace .now) (s .args .n))
+put-trace-requires c κs = let s =
+    start-trace (c .before .before .before) in omega
+    (arith, left-room (packed s) (from-label s) (at-trace (c .before .before .before)), packed-size (s .args .trace .now) (s .args .n))
 
 slice-aggregate-put : tie.Need-slice-aggregate-put
 slice-aggregate-put c = search needs
@@ -97,11 +100,19 @@ put-requires-3 c κs = search needs
 
 cast-trailer-bytes : tie.Need-cast-trailer-bytes
 cast-trailer-bytes c =
-    let sized = c .before .before .before .before .before .before .before .before .before .before .before .before .before .before .before .before .before .before .before .before in
+    let sized = c .before .before .before .before .before .before .before .before .before .before .before .before .before .before .before
+    .before .before .before .before .before in
     record { fits = omega (arith, few sized, sized .before .before .before .before .pre .short) }
 
 cast-trailer-bytes-2 : tie.Need-cast-trailer-bytes-2
-cast-trailer-bytes-2 c = record { fits = omega (arith, few (c .before .before .before .before .before .before .before .before .before .before .before .before .before .before .before .before .before .before .before .before)) }
+cast-trailer-bytes-2 c = record {
+  fits = omega (
+    arith,
+    few
+        (c .before .before .before .before .before .before .before .before .before .before .before .before .before .before .before .before
+        .before .before .before .before),
+  );
+}
 
 trailer-bytes-requires : tie.Need-trailer-bytes-requires
 trailer-bytes-requires c κs = search needs
@@ -120,9 +131,11 @@ returns c =
     let last = c .before .before in
     let placed = last .before .before .before .before .before .before in
     let s = start-trailer placed in
-    let sized = placed .before .before .before .before .before .before .before .before .before .before .before .before .before .before .before .before .before in
-    let text = last .before .before .trailer-bytes .ensures ∙ trailer-is (s .args .program .now) (s .args .trace .now) (s .args .n) (s .args .t4) (s .args .verdict) (sized .bytes-for .ensures) in
-    left-end (at-trailer placed) (rw text at (last .put4 .ensures)) .1 ∙ front-put (layout (held s)) (s .args .out .now) (s .pre .room)
+    let sized = placed .before .before .before .before .before .before .before .before .before .before .before .before .before .before
+    .before .before .before in
+    let text = last .before .before .trailer-bytes .ensures
+    ∙ trailer-is (s .args .program .now) (s .args .trace .now) (s .args .n) (s .args .t4) (s .args .verdict) (sized .bytes-for .ensures) in
+    left-end (at-trailer placed) (rw text at (last .put4 .ensures)) .1 ∙ front-put (layout (contents s)) (s .args .out .now) (s .pre .room)
 
 pub fill-spec : {M : Type 1} → statement M
 fill-spec =

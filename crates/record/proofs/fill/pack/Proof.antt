@@ -46,7 +46,8 @@ loop-again c = (
 )
 
 same-length : tie.Need-same-length Inv-loop μ-loop
-same-length c = packs-length _ _ _ (c .before .before .before .before .pre) (packs-end _ _ _ (c .before .before .before .before .pre) (c .loop-test .left) (c .before .loop .inv .1))
+same-length c = packs-length _ _ _ (c .before .before .before .before .pre)
+    (packs-end _ _ _ (c .before .before .before .before .pre) (c .loop-test .left) (c .before .loop .inv .1))
 
 returns : tie.Need-returns Inv-loop μ-loop
 returns c = packs-end _ _ _ (c .before .before .before .before .pre) (c .loop-test .left) (c .before .loop .inv .1)

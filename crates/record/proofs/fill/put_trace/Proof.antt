@@ -26,7 +26,8 @@ same-length : tie.Need-same-length
 same-length c = search needs
 
 returns : tie.Need-returns
-returns c = pack-put _ _ _ _ (c .before .before .before .before .before .before .before .pre) (c .before .before .before .before .bytes-for .ensures) (c .before .before .pack .ensures)
+returns c = pack-put _ _ _ _ (c .before .before .before .before .before .before .before .pre)
+    (c .before .before .before .before .bytes-for .ensures) (c .before .before .pack .ensures)
 
 pub put-trace-spec : {M : Type 1} → statement M
 put-trace-spec =

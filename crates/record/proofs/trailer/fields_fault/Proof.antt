@@ -20,10 +20,22 @@ returns-2 : tie.Need-returns-2
 returns-2 c = simp (le-ltb _ _ (c .before .before .if1 .left), sym (c .before .bytes-for .ensures), ne-eqb _ _ (c .if2 .taken))
 
 returns-3 : tie.Need-returns-3
-returns-3 c = simp (le-ltb _ _ (c .before .before .before .if1 .left), sym (c .before .before .bytes-for .ensures), eq-eqb _ _ (c .before .if2 .left), le-leb _ _ (c .if3 .taken))
+returns-3 c = simp (
+  le-ltb _ _ (c .before .before .before .if1 .left),
+  sym (c .before .before .bytes-for .ensures),
+  eq-eqb _ _
+      (c .before .if2 .left),
+  le-leb _ _ (c .if3 .taken),
+)
 
 returns-4 : tie.Need-returns-4
-returns-4 c = simp (le-ltb _ _ (c .before .before .before .if1 .left), sym (c .before .before .bytes-for .ensures), eq-eqb _ _ (c .before .if2 .left), lt-leb _ _ (c .if3 .left))
+returns-4 c = simp (
+  le-ltb _ _ (c .before .before .before .if1 .left),
+  sym (c .before .before .bytes-for .ensures),
+  eq-eqb _ _
+      (c .before .if2 .left),
+  lt-leb _ _ (c .if3 .left),
+)
 
 pub fields-fault-spec : {M : Type 1} → statement M
 fields-fault-spec =

@@ -60,10 +60,12 @@ returns-4 : tie.Need-returns-4
 unfolding markIn formatIn
 returns-4 c =
     let start = c .before .before .before .before in
-    faulty _ (start .before .before .before .before .before .if1 .left) (start .before .before .before .if2 .left) (start .before .if3 .left) (c .before .before .before .before .sixteen .ensures) (c .before .before .before .sixteen2 .ensures) (c .before .before .sixteen3 .ensures) (c .before .fields-fault .ensures) (c .if4 .taken)
+    faulty _ (start .before .before .before .before .before .if1 .left) (start .before .before .before .if2 .left)
+    (start .before .if3 .left) (c .before .before .before .before .sixteen .ensures) (c .before .before .before .sixteen2 .ensures)
+    (c .before .before .sixteen3 .ensures) (c .before .fields-fault .ensures) (c .if4 .taken)
 
-stored-requires : tie.Need-stored-requires
-stored-requires c κs =
+stored-parts-requires : tie.Need-stored-parts-requires
+stored-parts-requires c κs =
     distances
     _
     _
@@ -76,7 +78,9 @@ returns-5 : tie.Need-returns-5
 unfolding markIn formatIn
 returns-5 c =
     let start = c .before .before .before .before .before in
-    c .stored .ensures ∙ sound _ (start .before .before .before .before .before .if1 .left) (start .before .before .before .if2 .left) (start .before .if3 .left) (start .sixteen .ensures) (c .before .before .before .before .sixteen2 .ensures) (c .before .before .before .sixteen3 .ensures) (c .before .before .fields-fault .ensures) (c .before .if4 .left)
+    c .stored-parts .ensures ∙ sound _ (start .before .before .before .before .before .if1 .left) (start .before .before .before .if2 .left)
+    (start .before .if3 .left) (start .sixteen .ensures) (c .before .before .before .before .sixteen2 .ensures)
+    (c .before .before .before .sixteen3 .ensures) (c .before .before .fields-fault .ensures) (c .before .if4 .left)
 
 pub parts-spec : {M : Type 1} → statement M
 parts-spec =
@@ -99,5 +103,5 @@ parts-spec =
     cast-fields-fault
     fields-fault-requires
     returns-4
-    stored-requires
+    stored-parts-requires
     returns-5)

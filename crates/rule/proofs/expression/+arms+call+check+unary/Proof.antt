@@ -5,7 +5,8 @@ use native.Mathlib.Omega.{arith}
 use denote.Ref.{now}
 use borrow.Author.Needs.{needs}
 use Rattle.rule.specs.declared.Node.{Node}
-use Rattle.rule.specs.Walk.{frameIn, few, checkAt, unaryAt, armsAt, callAt, nodeBy}
+use Rattle.rule.specs.Form.{mostFunctions}
+use Rattle.rule.specs.Walk.{frameIn, atMostFour, checkAt, unaryAt, armsAt, callWalkedAt, nodeWalked}
 use Rattle.rule.proofs.Walking.{params-in, kinds-in, check-end, check-deep, check-node, unary-of, unary-not, call-none, call-not, call-args, Along, along-start, along-end, along-more}
 use borrow.Fn.Kinds.{In}
 use borrow.Fn.PlainCycle.{Measures, is, falls, and}
@@ -24,11 +25,12 @@ use Rattle.rule.proofs.expression.+arms+call+check+unary.Lts-unary as u
 use Rattle.rule.proofs.expression.after_end.Reads as after-end-reads
 use Rattle.rule.proofs.expression.alike.Reads as alike-reads
 use Rattle.rule.proofs.expression.at_most_four.Reads as at-most-four-reads
-use Rattle.rule.proofs.expression.bit.Reads as bit-reads
 use Rattle.rule.proofs.expression.leaf.Reads as leaf-reads
 use Rattle.rule.proofs.expression.param.Reads as param-reads
 use Rattle.rule.proofs.expression.refused.Reads as refused-reads
+use Rattle.rule.proofs.expression.wide.Reads as wide-reads
 use Rattle.rule.proofs.nodes.node_of.Reads as node-of-reads
+use Rattle.trace.proofs.bit.Reads as bit-reads
 use Rattle.rule.proofs.expression.+arms+call+check+unary.{statement}
 use Rattle.rule.proofs.expression.+arms+call+check+unary.Tie.{close}
 
@@ -72,10 +74,40 @@ abbrev arms-claims : ℕ → arms-lts.Claims
 arms-claims t = (check-below t, check.Post)
 
 abbrev call-claims : ℕ → call-lts.Claims
-call-claims t = (refused-reads.Asked, refused-reads.Learnt, bit-reads.Asked, bit-reads.Learnt, alike-reads.Asked, alike-reads.Learnt, at-most-four-reads.Asked, at-most-four-reads.Learnt, check-below t, check.Post)
+call-claims t = (
+  refused-reads.Asked,
+  refused-reads.Learnt,
+  wide-reads.Asked,
+  wide-reads.Learnt,
+  bit-reads.Asked,
+  bit-reads.Learnt,
+  alike-reads.Asked,
+  alike-reads.Learnt,
+  at-most-four-reads.Asked,
+  at-most-four-reads.Learnt,
+  check-below t,
+  check.Post,
+)
 
 abbrev check-claims : ℕ → check-lts.Claims
-check-claims t = (after-end-reads.Asked, after-end-reads.Learnt, refused-reads.Asked, refused-reads.Learnt, node-of-reads.Asked, node-of-reads.Learnt, leaf-reads.Asked, leaf-reads.Learnt, param-reads.Asked, param-reads.Learnt, unary-below t, unary.Post, arms-below t, arms.Post, call-below t, call.Post)
+check-claims t = (
+  after-end-reads.Asked,
+  after-end-reads.Learnt,
+  refused-reads.Asked,
+  refused-reads.Learnt,
+  node-of-reads.Asked,
+  node-of-reads.Learnt,
+  leaf-reads.Asked,
+  leaf-reads.Learnt,
+  param-reads.Asked,
+  param-reads.Learnt,
+  unary-below t,
+  unary.Post,
+  arms-below t,
+  arms.Post,
+  call-below t,
+  call.Post,
+)
 
 abbrev unary-claims : ℕ → unary-lts.Claims
 unary-claims t = (alike-reads.Asked, alike-reads.Learnt, check-below t, check.Post, refused-reads.Asked, refused-reads.Learnt)
@@ -83,7 +115,7 @@ unary-claims t = (alike-reads.Asked, alike-reads.Learnt, check-below t, check.Po
 at-node : (t : ℕ) (c : check-lts.After-node-of (check-claims t) (check-at t) check.Post) {k : Node} → c .node-of .result ≡ k →
     let a = c .before .before .before .before .args in
     let F = frameIn (now (a .body .now)) (a .heads .now) in
-    checkAt F (a .depth) (a .list) (a .at) ≡ nodeBy F (checkAt F (a .depth - 1)) (a .list) (a .at + 1) k
+    checkAt F (a .depth) (a .list) (a .at) ≡ nodeWalked F (checkAt F (a .depth - 1)) (a .list) (a .at + 1) k
 at-node t c q = check-node _ _ _ _ (c .before .before .before .if1 .left) (c .before .before .if2 .left) (sym (c .node-of .ensures) ∙ q)
 
 arms-check-requires : (t : ℕ) → arms-lts.Need-check-requires (arms-claims t) (arms-at t) arms.Post
@@ -115,11 +147,14 @@ call-refused-requires t c κs = search needs
 call-returns : (t : ℕ) → call-lts.Need-returns (call-claims t) (call-at t) call.Post call-Inv-loop call-μ-loop
 call-returns t c = c .refused .ensures ∙ sym (call-none _ _ _ _ _ (c .before .if1 .taken))
 
-call-add-signature : (t : ℕ) → call-lts.Need-add-signature (call-claims t) (call-at t) call.Post call-Inv-loop call-μ-loop
-call-add-signature t c = omega arith
+call-add-wide : (t : ℕ) → call-lts.Need-add-wide (call-claims t) (call-at t) call.Post call-Inv-loop call-μ-loop
+call-add-wide t c = omega arith
 
-call-element-copy-out-signature : (t : ℕ) → call-lts.Need-element-copy-out-signature (call-claims t) (call-at t) call.Post call-Inv-loop call-μ-loop
-call-element-copy-out-signature t c = omega (arith, c .before .before .pre .1 .few)
+call-element-copy-out-wide : (t : ℕ) → call-lts.Need-element-copy-out-wide (call-claims t) (call-at t) call.Post call-Inv-loop call-μ-loop
+call-element-copy-out-wide t c = omega (arith, c .before .before .pre .1 .few)
+
+call-wide-requires : (t : ℕ) → call-lts.Need-wide-requires (call-claims t) (call-at t) call.Post call-Inv-loop call-μ-loop
+call-wide-requires t c κs = search needs
 
 call-bit-requires : (t : ℕ) → call-lts.Need-bit-requires (call-claims t) (call-at t) call.Post call-Inv-loop call-μ-loop
 call-bit-requires t c κs = search needs
@@ -127,8 +162,9 @@ call-bit-requires t c κs = search needs
 call-alike-requires : (t : ℕ) → call-lts.Need-alike-requires (call-claims t) (call-at t) call.Post call-Inv-loop call-μ-loop
 call-alike-requires t c κs = search needs
 
-call-element-copy-out-at-most-four : (t : ℕ) → call-lts.Need-element-copy-out-at-most-four (call-claims t) (call-at t) call.Post call-Inv-loop call-μ-loop
-call-element-copy-out-at-most-four t c = omega (arith, c .before .before .before .before .before .before .pre .1 .few)
+call-element-copy-out-at-most-four : (t : ℕ)
+    → call-lts.Need-element-copy-out-at-most-four (call-claims t) (call-at t) call.Post call-Inv-loop call-μ-loop
+call-element-copy-out-at-most-four t c = omega (arith, c .before .before .before .before .before .before .before .pre .1 .few)
 
 call-at-most-four-requires : (t : ℕ) → call-lts.Need-at-most-four-requires (call-claims t) (call-at t) call.Post call-Inv-loop call-μ-loop
 call-at-most-four-requires t c κs = search needs
@@ -140,7 +176,7 @@ call-bit-requires-2 : (t : ℕ) → call-lts.Need-bit-requires-2 (call-claims t)
 call-bit-requires-2 t c κs = search needs
 
 call-check-requires : (t : ℕ) → call-lts.Need-check-requires (call-claims t) (call-at t) call.Post call-Inv-loop call-μ-loop
-call-check-requires t c κs = (omega arith, c .before .before .before .before .before .before .before .before .before .before .before .pre .1)
+call-check-requires t c κs = (omega arith, c .before .before .before .before .before .before .before .before .before .before .before .before .pre .1)
 
 call-add-i : (t : ℕ) → call-lts.Need-add-i (call-claims t) (call-at t) call.Post call-Inv-loop call-μ-loop
 call-add-i t c = omega arith
@@ -149,22 +185,35 @@ call-loop-less : (t : ℕ) → call-lts.Need-loop-less (call-claims t) (call-at 
 call-loop-less t c = omega arith
 
 call-loop-again : (t : ℕ) → call-lts.Need-loop-again (call-claims t) (call-at t) call.Post call-Inv-loop call-μ-loop
-call-loop-again t c = along-more (c .before .before .before .loop .inv) (c .before .before .loop-test .taken) (c .before .bit2 .ensures) (c .check .ensures)
+call-loop-again t c =
+    along-more (c .before .before .before .loop .inv) (c .before .before .loop-test .taken) (c .before .bit2 .ensures) (c .check .ensures)
 
 call-refused-requires-2 : (t : ℕ) → call-lts.Need-refused-requires-2 (call-claims t) (call-at t) call.Post call-Inv-loop call-μ-loop
 call-refused-requires-2 t c κs = search needs
 
 call-returns-2 : (t : ℕ) → call-lts.Need-returns-2 (call-claims t) (call-at t) call.Post call-Inv-loop call-μ-loop
 call-returns-2 t c =
-    let a = c .before .before .before .before .before .before .before .before .before .before .args in
-    let below : a .callee < 32 = omega (arith, c .before .before .before .before .before .before .before .before .before .before .pre .1 .few) in
-    sym (call-args _ _ _ _ _ (kinds-in (a .heads .now) (a .callee) below) (c .before .before .before .before .before .before .before .before .if1 .left) (c .before .before .before .before .before .before .bit .ensures) (c .before .before .before .before .before .alike .ensures) (c .before .before .before .before .if2 .taken) (c .before .before .at-most-four .ensures .0 ∙ ap few (params-in (a .heads .now) (a .callee) below)) ∙ along-end (c .before .loop .inv) (c .loop-test .left))
+    let a = c .before .before .before .before .before .before .before .before .before .before .before .args in
+    let below : a .callee < mostFunctions =
+    omega (arith, c .before .before .before .before .before .before .before .before .before .before .before .pre .1 .few) in
+    sym
+    (call-args _ _ _ _ _
+    (c .before .before .before .before .before .before .before .wide .ensures ∙ kinds-in (a .heads .now) (a .callee) below)
+    (c .before .before .before .before .before .before .before .before .before .if1 .left)
+    (c .before .before .before .before .before .before .bit .ensures)
+    (c .before .before .before .before .before .alike .ensures) (c .before .before .before .before .if2 .taken)
+    (c .before .before .at-most-four .ensures .0 ∙ ap atMostFour (params-in (a .heads .now) (a .callee) below))
+    ∙ along-end (c .before .loop .inv) (c .loop-test .left))
 
 call-returns-3 : (t : ℕ) → call-lts.Need-returns-3 (call-claims t) (call-at t) call.Post call-Inv-loop call-μ-loop
 call-returns-3 t c =
-    let a = c .before .before .before .before .before .before .before .args in
-    let below : a .callee < 32 = omega (arith, c .before .before .before .before .before .before .before .pre .1 .few) in
-    c .refused2 .ensures ∙ sym (call-not _ _ _ _ _ (kinds-in (a .heads .now) (a .callee) below) (c .before .before .before .before .before .if1 .left) (c .before .before .before .bit .ensures) (c .before .before .alike .ensures) (c .before .if2 .left))
+    let a = c .before .before .before .before .before .before .before .before .args in
+    let below : a .callee < mostFunctions = omega (arith, c .before .before .before .before .before .before .before .before .pre .1 .few) in
+    c .refused2 .ensures
+    ∙ sym
+    (call-not _ _ _ _ _ (c .before .before .before .before .wide .ensures ∙ kinds-in (a .heads .now) (a .callee) below)
+    (c .before .before .before .before .before .before .if1 .left) (c .before .before .before .bit .ensures)
+    (c .before .before .alike .ensures) (c .before .if2 .left))
 
 check-after-end-requires : (t : ℕ) → check-lts.Need-after-end-requires (check-claims t) (check-at t) check.Post
 check-after-end-requires t c κs = search needs
@@ -272,7 +321,8 @@ check-returns-5 : (t : ℕ) → check-lts.Need-returns-5 (check-claims t) (check
 check-returns-5 t c = c .leaf3 .ensures ∙ sym (at-node t (c .before .before .before) (c .before .enum-told3 .given .1))
 
 check-returns-6 : (t : ℕ) → check-lts.Need-returns-6 (check-claims t) (check-at t) check.Post
-check-returns-6 t c = c .param .ensures ∙ sym (at-node t (c .before .before .before .before .before .before) (c .before .before .before .before .i .given .1))
+check-returns-6 t c =
+    c .param .ensures ∙ sym (at-node t (c .before .before .before .before .before .before) (c .before .before .before .before .i .given .1))
 
 check-returns-7 : (t : ℕ) → check-lts.Need-returns-7 (check-claims t) (check-at t) check.Post
 unfolding unaryAt
@@ -294,7 +344,7 @@ check-returns-11 : (t : ℕ) → check-lts.Need-returns-11 (check-claims t) (che
 check-returns-11 t c = c .refused2 .ensures ∙ sym (at-node t (c .before .before .before) (c .before .enum-told8 .given .1))
 
 check-returns-12 : (t : ℕ) → check-lts.Need-returns-12 (check-claims t) (check-at t) check.Post
-unfolding callAt
+unfolding callWalkedAt
 check-returns-12 t c = c .call .ensures ∙ sym (at-node t (c .before .before .before .before) (c .before .before .g .given .1))
 
 check-returns-13 : (t : ℕ) → check-lts.Need-returns-13 (check-claims t) (check-at t) check.Post
@@ -317,7 +367,25 @@ unary-returns-2 t c = c .refused .ensures ∙ sym (unary-not _ _ _ _ _ (c .befor
 
 pub +arms+call+check+unary-spec : {M : Type 1} → statement M
 +arms+call+check+unary-spec = close μ-arms μ-call μ-check μ-unary
-    (λ t. arms-lts.spec (arms-claims t) (arms-at t) arms.Post (arms-check-requires t) (arms-check-requires-2 t) (arms-check-requires-3 t) (arms-returns t))
-    (λ t. call-lts.spec (call-claims t) (call-at t) call.Post call-Inv-loop call-μ-loop (call-element-copy-out-if1 t) (call-refused-requires t) (call-returns t) (call-add-signature t) (call-element-copy-out-signature t) (call-bit-requires t) (call-alike-requires t) (call-element-copy-out-at-most-four t) (call-at-most-four-requires t) (call-loop-holds t) (call-bit-requires-2 t) (call-check-requires t) (call-add-i t) (call-loop-less t) (call-loop-again t) (call-refused-requires-2 t) (call-returns-2 t) (call-returns-3 t))
-    (λ t. check-lts.spec (check-claims t) (check-at t) check.Post (check-after-end-requires t) (check-returns t) (check-refused-requires t) (check-returns-2 t) (check-sub-left t) (check-add-next t) (check-index-1-node-of t) (check-node-of-requires t) (check-enum-told t) (check-leaf-requires t) (check-enum-told-2 t) (check-leaf-requires-2 t) (check-enum-told-3 t) (check-leaf-requires-3 t) (check-enum-known-i t) (check-element-copy-out-param t) (check-element-copy-out-param-2 t) (check-param-requires t) (check-enum-told-4 t) (check-unary-requires t) (check-enum-told-5 t) (check-unary-requires-2 t) (check-enum-told-6 t) (check-unary-requires-3 t) (check-enum-told-7 t) (check-arms-requires t) (check-enum-told-8 t) (check-refused-requires-2 t) (check-enum-known-g t) (check-call-requires t) (check-enum-told-9 t) (check-refused-requires-3 t) (check-returns-3 t) (check-returns-4 t) (check-returns-5 t) (check-returns-6 t) (check-returns-7 t) (check-returns-8 t) (check-returns-9 t) (check-returns-10 t) (check-returns-11 t) (check-returns-12 t) (check-returns-13 t))
-    (λ t. unary-lts.spec (unary-claims t) (unary-at t) unary.Post (unary-alike-requires t) (unary-check-requires t) (unary-refused-requires t) (unary-returns t) (unary-returns-2 t))
+    (λ t.
+    arms-lts.spec (arms-claims t) (arms-at t) arms.Post (arms-check-requires t) (arms-check-requires-2 t) (arms-check-requires-3 t) (arms-returns t))
+    (λ t.
+    call-lts.spec (call-claims t) (call-at t) call.Post call-Inv-loop call-μ-loop (call-element-copy-out-if1 t)
+    (call-refused-requires t) (call-returns t) (call-add-wide t) (call-element-copy-out-wide t) (call-wide-requires t)
+    (call-bit-requires t) (call-alike-requires t) (call-element-copy-out-at-most-four t) (call-at-most-four-requires t)
+    (call-loop-holds t) (call-bit-requires-2 t) (call-check-requires t) (call-add-i t) (call-loop-less t)
+    (call-loop-again t) (call-refused-requires-2 t) (call-returns-2 t) (call-returns-3 t))
+    (λ t.
+    check-lts.spec (check-claims t) (check-at t) check.Post (check-after-end-requires t) (check-returns t)
+    (check-refused-requires t) (check-returns-2 t) (check-sub-left t) (check-add-next t) (check-index-1-node-of t)
+    (check-node-of-requires t) (check-enum-told t) (check-leaf-requires t) (check-enum-told-2 t) (check-leaf-requires-2 t)
+    (check-enum-told-3 t) (check-leaf-requires-3 t) (check-enum-known-i t) (check-element-copy-out-param t)
+    (check-element-copy-out-param-2 t) (check-param-requires t) (check-enum-told-4 t) (check-unary-requires t)
+    (check-enum-told-5 t) (check-unary-requires-2 t) (check-enum-told-6 t) (check-unary-requires-3 t) (check-enum-told-7 t)
+    (check-arms-requires t) (check-enum-told-8 t) (check-refused-requires-2 t) (check-enum-known-g t)
+    (check-call-requires t) (check-enum-told-9 t) (check-refused-requires-3 t) (check-returns-3 t) (check-returns-4 t)
+    (check-returns-5 t) (check-returns-6 t) (check-returns-7 t) (check-returns-8 t) (check-returns-9 t) (check-returns-10 t)
+    (check-returns-11 t) (check-returns-12 t) (check-returns-13 t))
+    (λ t.
+    unary-lts.spec (unary-claims t) (unary-at t) unary.Post (unary-alike-requires t) (unary-check-requires t)
+    (unary-refused-requires t) (unary-returns t) (unary-returns-2 t))

@@ -1,6 +1,6 @@
 -- `leaf` meets its contract, by its two cases.
 use mathlib.Core.Path.{sym, _∙_}
-use Rattle.rule.specs.Walk.{leafAt}
+use Rattle.rule.specs.Walk.{leafWalked}
 use borrow.Author.Needs.{needs}
 use Rattle.rule.proofs.expression.leaf.Statement.{statement}
 use Rattle.rule.proofs.expression.leaf.Tie as tie
@@ -12,11 +12,11 @@ refused-requires : tie.Need-refused-requires
 refused-requires c κs = search needs
 
 returns : tie.Need-returns
-unfolding leafAt
+unfolding leafWalked
 returns c = simp (sym (c .before .alike .ensures) ∙ c .if1 .taken)
 
 returns-2 : tie.Need-returns-2
-unfolding leafAt
+unfolding leafWalked
 returns-2 c = c .refused .ensures ∙ simp (sym (c .before .before .alike .ensures) ∙ c .before .if1 .left)
 
 pub leaf-spec : {M : Type 1} → statement M

@@ -25,7 +25,12 @@ element-copy-out-start : tie.Need-element-copy-out-start Inv-loop μ-loop
 element-copy-out-start c = omega arith
 
 cast-start : tie.Need-cast-start Inv-loop μ-loop
-cast-start c = omega (arith, c .before .before .before .before .pre .ordered (c .before .before .loop .i) (c .before .loop-test .taken), c .before .before .before .before .pre .within (c .before .before .loop .i) (c .before .loop-test .taken))
+cast-start c =
+    omega (
+      arith,
+      c .before .before .before .before .pre .ordered (c .before .before .loop .i) (c .before .loop-test .taken),
+      c .before .before .before .before .pre .within (c .before .before .loop .i) (c .before .loop-test .taken),
+    )
 
 mul-end : tie.Need-mul-end Inv-loop μ-loop
 mul-end c = omega arith
@@ -34,7 +39,8 @@ element-copy-out-end : tie.Need-element-copy-out-end Inv-loop μ-loop
 element-copy-out-end c = omega arith
 
 cast-end : tie.Need-cast-end Inv-loop μ-loop
-cast-end c = omega (arith, c .before .before .before .before .before .pre .within (c .before .before .before .loop .i) (c .before .before .loop-test .taken))
+cast-end c =
+    omega (arith, c .before .before .before .before .before .pre .within (c .before .before .before .loop .i) (c .before .before .loop-test .taken))
 
 sub-body : tie.Need-sub-body Inv-loop μ-loop
 sub-body c = c .before .before .before .before .before .pre .ordered (c .before .before .before .loop .i) (c .before .before .loop-test .taken)
@@ -71,7 +77,12 @@ enum-known-refusal : tie.Need-enum-known-refusal Inv-loop μ-loop
 enum-known-refusal c = search needs
 
 returns : tie.Need-returns Inv-loop μ-loop
-returns c = going-stop (c .before .before .before .before .before .before .before .before .before .before .before .before .loop .inv) (c .before .before .before .before .before .before .before .before .before .before .before .loop-test .taken) (sym (c .before .before .before .check-body .ensures ∙ ap bodyAt (c .before .before .before .before .before .heads-of .ensures _)) ∙ c .before .refusal .given .1)
+returns c =
+    going-stop
+    (c .before .before .before .before .before .before .before .before .before .before .before .before .loop .inv)
+    (c .before .before .before .before .before .before .before .before .before .before .before .loop-test .taken)
+    (sym (c .before .before .before .check-body .ensures ∙ ap bodyAt (c .before .before .before .before .before .heads-of .ensures _))
+    ∙ c .before .refusal .given .1)
 
 enum-told : tie.Need-enum-told Inv-loop μ-loop
 enum-told c = search needs
@@ -83,7 +94,10 @@ loop-less : tie.Need-loop-less Inv-loop μ-loop
 loop-less c = omega arith
 
 loop-again : tie.Need-loop-again Inv-loop μ-loop
-loop-again c = going-more (c .before .before .before .before .before .before .before .before .before .before .before .loop .inv) (c .before .before .before .before .before .before .before .before .before .before .loop-test .taken) (sym (c .before .before .check-body .ensures ∙ ap bodyAt (c .before .before .before .before .heads-of .ensures _)) ∙ c .enum-told .given .1)
+loop-again c =
+    going-more (c .before .before .before .before .before .before .before .before .before .before .before .loop .inv)
+    (c .before .before .before .before .before .before .before .before .before .before .loop-test .taken)
+    (sym (c .before .before .check-body .ensures ∙ ap bodyAt (c .before .before .before .before .heads-of .ensures _)) ∙ c .enum-told .given .1)
 
 returns-2 : tie.Need-returns-2 Inv-loop μ-loop
 returns-2 c = going-end (c .before .loop .inv) (c .loop-test .left)

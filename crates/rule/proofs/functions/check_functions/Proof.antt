@@ -8,12 +8,14 @@ use Rattle.rule.proofs.functions.check_functions.Statement.{statement}
 use Rattle.rule.proofs.functions.check_functions.Tie as tie
 
 -- the headers were read
-was-read : (c : tie.After-enum-told) → let a = c .before .before .before .before .args in Read (a .program .now) (a .count) (c .before .before .scan-headers .result)
+was-read : (c : tie.After-enum-told)
+    → let a = c .before .before .before .before .args in Read (a .program .now) (a .count) (c .before .before .scan-headers .result)
 was-read c = scan-read _ _ _ (c .before .before .scan-headers .ensures) (c .before .before .before .before .pre) (c .enum-told .given .1)
 
 -- the test of main's kind says what the headers say
 main-test : (c : tie.After-is-main) → c .is-main .result ≡ mainFirst (headers (was-read (c .before .before .before .before .before .before) .xs))
-main-test c = main-bits (was-read (c .before .before .before .before .before .before)) (c .before .before .before .before .if1 .left) (c .is-main .ensures)
+main-test c =
+    main-bits (was-read (c .before .before .before .before .before .before)) (c .before .before .before .before .if1 .left) (c .is-main .ensures)
 
 scan-headers-requires : tie.Need-scan-headers-requires
 scan-headers-requires c κs = search needs
@@ -43,7 +45,10 @@ is-main-requires : tie.Need-is-main-requires
 is-main-requires c κs = search needs
 
 check-bodies-requires : tie.Need-check-bodies-requires
-check-bodies-requires c κs = bodies-placed (was-read (c .before .before .before .before .before .before .before .before .before .before .before .before .before)) (c .before .before .before .before .before .before .before .before .before .before .before .if1 .left)
+check-bodies-requires c κs =
+    bodies-placed
+    (was-read (c .before .before .before .before .before .before .before .before .before .before .before .before .before))
+    (c .before .before .before .before .before .before .before .before .before .before .before .if1 .left)
 
 enum-known-refusal : tie.Need-enum-known-refusal
 enum-known-refusal c = search needs
@@ -61,18 +66,38 @@ returns-2 : tie.Need-returns-2
 returns-2 c =
     let a = c .before .before .before .before .before .before .args in
     answer-refused _ (c .refused .ensures)
-    ∙ sym (scan-stopped (a .program .now) (a .count) _ (c .before .before .before .before .scan-headers .ensures) (c .before .before .check .given .1))
+    ∙ sym (scan-stopped (a .program .now) (a .count) _ (c .before .before .before .before .scan-headers .ensures)
+    (c .before .before .check .given .1))
 
 returns-3 : tie.Need-returns-3
 returns-3 c =
+    let main = c .before .before .before .before .before .before .before .before .before .before .before .before in
     answer-refused _ (c .refused3 .ensures)
-    ∙ sym (bodies-refused (was-read (c .before .before .before .before .before .before .before .before .before .before .before .before .before .before .before .before .before .before)) (c .before .before .before .before .before .before .before .before .before .before .before .before .before .before .before .before .if1 .left) (sym (main-test (c .before .before .before .before .before .before .before .before .before .before .before .before)) ∙ c .before .before .before .before .before .before .before .before .before .before .before .if2 .taken) (c .before .before .before .before .check-bodies .ensures) (c .before .before .refusal .given .1))
+    ∙ sym
+    (bodies-refused
+    (was-read
+    (main .before .before .before .before .before .before))
+    (main .before .before .before .before .if1 .left)
+    (sym (main-test main)
+    ∙ c .before .before .before .before .before .before .before .before .before .before .before .if2 .taken)
+    (c .before .before .before .before .check-bodies .ensures) (c .before .before .refusal .given .1))
 
 returns-4 : tie.Need-returns-4
-returns-4 c = all-passed (was-read (c .before .before .before .before .before .before .before .before .before .before .before .before .before .before .before .before)) (c .before .before .before .before .before .before .before .before .before .before .before .before .before .before .if1 .left) (sym (main-test (c .before .before .before .before .before .before .before .before .before .before)) ∙ c .before .before .before .before .before .before .before .before .before .if2 .taken) (c .before .before .check-bodies .ensures) (c .enum-told2 .given .1)
+returns-4 c =
+    all-passed
+    (was-read (c .before .before .before .before .before .before .before .before .before .before .before .before .before .before .before .before))
+    (c .before .before .before .before .before .before .before .before .before .before .before .before .before .before .if1 .left)
+    (sym (main-test (c .before .before .before .before .before .before .before .before .before .before))
+    ∙ c .before .before .before .before .before .before .before .before .before .if2 .taken)
+    (c .before .before .check-bodies .ensures) (c .enum-told2 .given .1)
 
 returns-5 : tie.Need-returns-5
-returns-5 c = answer-refused _ (c .refused4 .ensures) ∙ sym (wrong-main (was-read (c .before .before .before .before .before .before .before .before)) (c .before .before .before .before .before .before .if1 .left) (sym (main-test (c .before .before)) ∙ c .before .if2 .left))
+returns-5 c =
+    answer-refused _ (c .refused4 .ensures)
+    ∙ sym
+    (wrong-main (was-read (c .before .before .before .before .before .before .before .before))
+    (c .before .before .before .before .before .before .if1 .left)
+    (sym (main-test (c .before .before)) ∙ c .before .if2 .left))
 
 pub check-functions-spec : {M : Type 1} → statement M
 check-functions-spec =

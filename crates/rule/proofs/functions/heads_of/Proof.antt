@@ -4,7 +4,8 @@ use mathlib.Core.List.{List}
 use Prim.Native.Nat.{ℕ}
 use lib.ListN.{length, set, length-replicate}
 use lib.Seq.{paste}
-use Rattle.rule.specs.Walk.{frameIn}
+use Rattle.rule.specs.Form.{mostFunctions}
+use Rattle.rule.specs.Walk.{kindsPlace, functionsPlace, ownParamsPlace, ownKindsPlace, headsLength, frameIn}
 use Rattle.rule.proofs.FrameWays.{heads-frame}
 use borrow.Author.Needs.{needs}
 use Rattle.rule.proofs.functions.heads_of.Statement.{statement}
@@ -34,10 +35,14 @@ array-write-heads-3 c = search needs
 returns : tie.Need-returns
 returns c body =
     let a = c .before .before .before .before .before .before .before .before .args in
-    let whole : length (a .params .now) ≡ 32 = search needs in
-    let also : length (a .kinds .now) ≡ 32 = search needs in
-    ap (λ (l : List ℕ). frameIn body (set (set (set l 64 (a .count)) 65 (a .own-params)) 66 (a .own-kinds))) (c .before .copy2 .ensures ∙ ap (λ (l : List ℕ). paste l 32 (a .kinds .now) (length (a .kinds .now))) (c .before .before .before .before .before .copy .ensures))
-    ∙ heads-frame body _ (a .params .now) (a .kinds .now) (a .count) (a .own-params) (a .own-kinds) (length-replicate {A = ℕ} 67 0) whole also
+    let whole : length (a .params .now) ≡ mostFunctions = search needs in
+    let also : length (a .kinds .now) ≡ mostFunctions = search needs in
+    ap
+    (λ (l : List ℕ). frameIn body (set (set (set l functionsPlace (a .count)) ownParamsPlace (a .own-params)) ownKindsPlace (a .own-kinds)))
+    (c .before .copy2 .ensures
+    ∙ ap (λ (l : List ℕ). paste l kindsPlace (a .kinds .now) (length (a .kinds .now))) (c .before .before .before .before .before .copy .ensures))
+    ∙ heads-frame body _ (a .params .now) (a .kinds .now) (a .count) (a .own-params) (a .own-kinds)
+    (length-replicate {A = ℕ} headsLength 0) whole also
 
 pub heads-of-spec : {M : Type 1} → statement M
 heads-of-spec =

@@ -1,4 +1,4 @@
--- `scan_headers` meets its contract. Before turn i the arrays hold the layout of the functions before it.
+-- `scan_headers` meets its contract. Before turn i the arrays hold the outline of the functions before it.
 use mathlib.Core.Path.{sym, _∙_}
 use Prim.Native.Nat.{_+_, _-_, _≤_}
 use native.Mathlib.Omega.{arith}
@@ -43,8 +43,11 @@ enum-known-header c = search needs
 -- the body of the header that was found ends within the program
 fits : (c : tie.After-struct-known Inv-loop μ-loop)
     → (c .before .before .header .given .0 .0 .length ≤ mostBody)
-    × (c .before .before .before .before .before .before .loop .at + 4 + c .before .before .header .given .0 .0 .length ≤ length (c .before .before .before .before .before .before .before .before .args .program .now))
-fits c = next-fits (c .before .before .before .before .before .before .loop .inv) (sym (c .before .before .before .before .header-at .ensures) ∙ c .before .before .header .given .1)
+    × (c .before .before .before .before .before .before .loop .at + 4 + c .before .before .header .given .0 .0 .length ≤
+    length (c .before .before .before .before .before .before .before .before .args .program .now))
+fits c =
+    next-fits (c .before .before .before .before .before .before .loop .inv)
+    (sym (c .before .before .before .before .header-at .ensures) ∙ c .before .before .header .given .1)
 
 add-start : tie.Need-add-start Inv-loop μ-loop
 add-start c = omega arith

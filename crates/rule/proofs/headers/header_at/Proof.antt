@@ -27,20 +27,20 @@ returns-2 c =
     let a = c .before .before .before .before .before .before .args in
     header-kinds (a .program .now) (a .at) (c .before .before .before .before .if1 .left) (c .before .kinds-fault .ensures) (c .if2 .taken)
 
-add-sixteen : tie.Need-add-sixteen
-add-sixteen c = search needs
+add-from16 : tie.Need-add-from16
+add-from16 c = search needs
 
-shared-slice-read-sixteen : tie.Need-shared-slice-read-sixteen
-shared-slice-read-sixteen c = search needs
+shared-slice-read-from16 : tie.Need-shared-slice-read-from16
+shared-slice-read-from16 c = search needs
 
-add-sixteen-2 : tie.Need-add-sixteen-2
-add-sixteen-2 c = search needs
+add-from16-2 : tie.Need-add-from16-2
+add-from16-2 c = search needs
 
-shared-slice-read-sixteen-2 : tie.Need-shared-slice-read-sixteen-2
-shared-slice-read-sixteen-2 c = search needs
+shared-slice-read-from16-2 : tie.Need-shared-slice-read-from16-2
+shared-slice-read-from16-2 c = search needs
 
-sixteen-requires : tie.Need-sixteen-requires
-sixteen-requires c κs = search needs
+from16-requires : tie.Need-from16-requires
+from16-requires c κs = search needs
 
 length-fault-requires : tie.Need-length-fault-requires
 length-fault-requires c κs = search needs
@@ -54,7 +54,7 @@ returns-3 c =
     (c .before .before .before .before .before .before .before .before .before .if1 .left)
     (c .before .before .before .before .before .before .kinds-fault .ensures)
     (c .before .before .before .before .before .if2 .left)
-    (c .before .before .sixteen .ensures)
+    (c .before .before .from16 .ensures)
     (c .before .length-fault .ensures)
     (c .if3 .taken)
 
@@ -67,7 +67,7 @@ returns-4 c =
     (c .before .before .before .before .before .before .before .before .before .if1 .left)
     (c .before .before .before .before .before .before .kinds-fault .ensures)
     (c .before .before .before .before .before .if2 .left)
-    (c .before .before .sixteen .ensures)
+    (c .before .before .from16 .ensures)
     (c .before .length-fault .ensures)
     (c .if3 .left)
 
@@ -82,11 +82,11 @@ header-at-spec =
     shared-slice-read-kinds
     kinds-fault-requires
     returns-2
-    add-sixteen
-    shared-slice-read-sixteen
-    add-sixteen-2
-    shared-slice-read-sixteen-2
-    sixteen-requires
+    add-from16
+    shared-slice-read-from16
+    add-from16-2
+    shared-slice-read-from16-2
+    from16-requires
     length-fault-requires
     returns-3
     returns-4)

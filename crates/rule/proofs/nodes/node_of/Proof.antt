@@ -1,11 +1,10 @@
 -- `node_of` meets its contract: an arm with one byte computes; the others know that the byte is none of those.
 use mathlib.Core.Path.{_≡_, sym, ap, _∙_}
-use mathlib.Core.Bool.{true, false, _&&_}
+use mathlib.Core.Bool.{true, false, _&&_, cond}
 use Prim.Native.Nat.{ℕ, suc, _-_, _≤_}
 use native.Mathlib.Omega.{arith}
 use lib.Dec.{leb}
 use borrow.Author.Tests.{le-leb, lt-leb, ne-eqb}
-use Rattle.semantics.specs.Table.{pick}
 use Rattle.rule.specs.declared.Node.{Node}
 use Rattle.rule.specs.declared.Node.the-variants.{Param, Call, Unknown}
 use Rattle.rule.specs.Reading.{nodeOf}
@@ -14,9 +13,10 @@ use Rattle.rule.proofs.nodes.node_of.Tie as tie
 
 -- a byte that no arm names alone is in one of the two ranges or unknown
 ranged : ℕ → Node
-ranged b = pick (leb 0x10 b && leb b 0x13) (Param (b - 0x10)) (pick (leb 0x80 b && leb b 0x9F) (Call (b - 0x80)) Unknown)
+ranged b = cond (leb 0x10 b && leb b 0x13) (Param (b - 0x10)) (cond (leb 0x80 b && leb b 0x9F) (Call (b - 0x80)) Unknown)
 
-others : (b : ℕ) → (b ≡ 0x00 → ⊥) → (b ≡ 0x01 → ⊥) → (b ≡ 0x02 → ⊥) → (b ≡ 0x20 → ⊥) → (b ≡ 0x21 → ⊥) → (b ≡ 0x22 → ⊥) → (b ≡ 0x23 → ⊥) → (b ≡ 0x24 → ⊥) → nodeOf b ≡ ranged b
+others : (b : ℕ) → (b ≡ 0x00 → ⊥) → (b ≡ 0x01 → ⊥) → (b ≡ 0x02 → ⊥) → (b ≡ 0x20 → ⊥) → (b ≡ 0x21 → ⊥) → (b ≡ 0x22 → ⊥)
+    → (b ≡ 0x23 → ⊥) → (b ≡ 0x24 → ⊥) → nodeOf b ≡ ranged b
 unfolding nodeOf ranged
 others b h0 h1 h2 h3 h4 h5 h6 h7 =
     simp (ne-eqb _ _ h0, ne-eqb _ _ h1, ne-eqb _ _ h2, ne-eqb _ _ h3, ne-eqb _ _ h4, ne-eqb _ _ h5, ne-eqb _ _ h6, ne-eqb _ _ h7)
@@ -24,7 +24,8 @@ others b h0 h1 h2 h3 h4 h5 h6 h7 =
 rest : (c : tie.At-match-rest) → nodeOf (c .before .args .byte) ≡ ranged (c .before .args .byte)
 rest c =
     let r = c .match .rest in
-    others _ (r .0 .0 .0 .0 .0 .0 .0 .1) (r .0 .0 .0 .0 .0 .0 .1) (r .0 .0 .0 .0 .0 .1) (r .0 .0 .0 .0 .1) (r .0 .0 .0 .1) (r .0 .0 .1) (r .0 .1) (r .1)
+    others _ (r .0 .0 .0 .0 .0 .0 .0 .1) (r .0 .0 .0 .0 .0 .0 .1) (r .0 .0 .0 .0 .0 .1) (r .0 .0 .0 .0 .1) (r .0 .0 .0 .1)
+    (r .0 .0 .1) (r .0 .1) (r .1)
 
 in-first : (b : ℕ) → 0x10 ≤ b → b ≤ 0x13 → Param (b - 0x10) ≡ ranged b
 unfolding ranged

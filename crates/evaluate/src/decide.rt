@@ -1,0 +1,67 @@
+// What a settled evaluation decides, and what one pass of it stores.
+use fixpoint::passes;
+use fixpoint::setup;
+use fixpoint::setup::Cells;
+use rule::Outline;
+use semantics::Verdict;
+ghost use mathlib.Core.Path.{_≡_};
+ghost use lib.ListN.{length};
+ghost use Rattle.trace.specs.{samples};
+ghost use Rattle.semantics.specs.Visits.{pass, passStores};
+ghost use Rattle.semantics.specs.Verdicts.{verdictOf};
+ghost use Rattle.semantics.specs.Passes.{decidedTable};
+ghost use Rattle.rule.specs.Reading.{programOf};
+ghost use Rattle.evaluate.specs.Settled.{Settled};
+
+// The verdict of a settled evaluation, and its cells in the table.
+pub fn decide(
+    program: &[u8],
+    trace: &[u8],
+    n: u16,
+    outline: Outline,
+    places: Cells,
+    table: &mut [u16],
+) -> Verdict
+    requires { ⌜ Settled (now program) (now trace) n outline places (length (now table)) ⌝ }
+    ensures verdict { λ r. ⌜ r ≡ verdictOf (programOf (now (program .entry))) (samples (now (trace .entry)) n) ⌝ }
+    ensures cells { λ _. ⌜ now (table .exit) ≡ decidedTable (programOf (now (program .entry))) (samples (now (trace .entry)) n) (now (table .entry)) ⌝ }
+{
+    let words = setup::words_of(program, &outline.params, trace);
+    passes::clear(table, places.total as usize);
+    let passes = passes::run(
+        &words,
+        &places.functions,
+        table,
+        n,
+        &outline.starts,
+        outline.functions,
+    );
+    Verdict {
+        decision: semantics::main_decision(table[n as usize]),
+        passes,
+    }
+}
+
+// One pass of a settled evaluation over the table as it is: how many outcomes it stored.
+pub fn pass_once(
+    program: &[u8],
+    trace: &[u8],
+    n: u16,
+    outline: Outline,
+    places: Cells,
+    table: &mut [u16],
+) -> usize
+    requires { ⌜ Settled (now program) (now trace) n outline places (length (now table)) ⌝ }
+    ensures stored { λ r. ⌜ r ≡ passStores (programOf (now (program .entry))) (samples (now (trace .entry)) n) (now (table .entry)) ⌝ }
+    ensures cells { λ _. ⌜ now (table .exit) ≡ pass (programOf (now (program .entry))) (samples (now (trace .entry)) n) (now (table .entry)) ⌝ }
+{
+    let words = setup::words_of(program, &outline.params, trace);
+    passes::pass(
+        &words,
+        &places.functions,
+        table,
+        n,
+        &outline.starts,
+        outline.functions,
+    )
+}

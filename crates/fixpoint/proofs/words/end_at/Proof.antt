@@ -1,0 +1,28 @@
+-- `end_at` meets its contract, by its two cases.
+use mathlib.Core.Path.{sym}
+use borrow.Author.Needs.{needs}
+use borrow.Author.Tests.{lt-ltb, le-ltb}
+use Rattle.fixpoint.specs.Mirror.{endAt}
+use Rattle.fixpoint.proofs.WordPlaces.{end-at}
+use Rattle.fixpoint.proofs.words.end_at.Statement.{statement}
+use Rattle.fixpoint.proofs.words.end_at.Tie as tie
+
+add-result : tie.Need-add-result
+add-result c = search needs
+
+mul-result : tie.Need-mul-result
+mul-result c = search needs
+
+element-copy-out-result : tie.Need-element-copy-out-result
+element-copy-out-result c = search needs
+
+returns : tie.Need-returns
+unfolding endAt
+returns c = rw (lt-ltb _ _ (c .before .if1 .taken)) (sym (end-at _ _ (c .before .if1 .taken)))
+
+returns-2 : tie.Need-returns-2
+unfolding endAt
+returns-2 c = simp (le-ltb _ _ (c .if1 .left))
+
+pub end-at-spec : {M : Type 1} → statement M
+end-at-spec = tie.close (tie.spec add-result mul-result element-copy-out-result returns returns-2)

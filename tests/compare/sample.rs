@@ -1,0 +1,61 @@
+//! The sample archive: records of each verdict; one with another verdict, one with another pass count; a rule
+//! that needs all of the listing's cells, and one that needs more; two labels; traces of no sample, of some and
+//! of many.
+
+use super::oracle::record::Content;
+use super::oracle::{program, search, trace};
+
+const ALL_ONES: &[u8] = b"\x01\x01\x01\x0B\x00\x23\x22\x10\x01\x23\x20\x10\x80\x21\x10\x00";
+const NO_TWO_ONES: &[u8] = b"\x01\x01\x01\x17\x00\x23\x22\x10\x01\x23\x20\x10\x23\x22\x21\x10\
+    \x01\x23\x20\x21\x10\x00\x80\x21\x10\x80\x21\x10";
+const FIRST: &[u8] = b"\x01\x01\x01\x02\x00\x20\x10";
+const ITSELF: &[u8] = b"\x01\x01\x01\x02\x00\x80\x10";
+const TO_THE_END: &[u8] = b"\x01\x01\x01\x03\x00\x80\x21\x10";
+const BY_ANOTHER: &[u8] = b"\x02\x01\x01\x01\x00\x81\x00\x00\x01\x00\x01";
+/// A function of two lists: 40,602 cells on 200 samples.
+const SAME_LENGTH: &[u8] = b"\x02\x01\x01\x04\x00\x81\x10\x21\x10\x02\x03\x0D\x00\x23\x22\x10\
+    \x01\x23\x22\x11\x00\x81\x21\x10\x21\x11";
+const NO_LABEL: [u8; 8] = [0; 8];
+
+/// 32 functions of a list: 16,384 cells on 511 samples.
+fn fitting() -> Vec<u8> {
+    [&[32][..], &[1, 1, 1, 0, 1].repeat(32)].concat()
+}
+
+/// A record of a rule on a trace, with the verdict and the pass count that it has.
+fn recorded(program: &[u8], samples: &[bool], label: [u8; 8]) -> Content {
+    let functions = program::check(program).expect("the sample's programs are accepted");
+    let evaluation = search::evaluate(&functions, samples);
+    Content {
+        program: program.to_vec(),
+        trace: trace::pack(samples),
+        n: samples.len() as u16,
+        label,
+        verdict: evaluation.verdict,
+        passes: evaluation.passes,
+    }
+}
+
+/// The bytes of the archive.
+pub fn archive() -> Vec<u8> {
+    let once_in = |period: usize, n: usize| (0..n).map(|i| i % period == 0).collect::<Vec<_>>();
+    let twelve_ones = [vec![true; 12], vec![false]].concat();
+    let second_ones = [false, true].repeat(20);
+    let mut yes = recorded(ALL_ONES, &[false; 4], NO_LABEL);
+    yes.verdict = 2;
+    let mut early = recorded(BY_ANOTHER, &[], NO_LABEL);
+    early.passes = 2;
+    let contents = [
+        recorded(ALL_ONES, &[true; 24], *b"press 07"),
+        recorded(ALL_ONES, &twelve_ones, NO_LABEL),
+        recorded(ITSELF, &[true, false, true], NO_LABEL),
+        recorded(FIRST, &[], NO_LABEL),
+        recorded(TO_THE_END, &second_ones, NO_LABEL),
+        recorded(NO_TWO_ONES, &once_in(3, 301), *b"ladle 02"),
+        recorded(SAME_LENGTH, &[true; 200], NO_LABEL),
+        recorded(&fitting(), &[false; 511], NO_LABEL),
+        yes,
+        early,
+    ];
+    contents.iter().flat_map(Content::bytes).collect()
+}

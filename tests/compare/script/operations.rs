@@ -1,0 +1,212 @@
+//! What each operation prints: the answer, and every memory that it may write.
+
+use super::super::oracle::search::Evaluation;
+use super::super::oracle::{self, listing, program, record, ring};
+use super::fields::{Fields, Memory};
+use super::print;
+
+/// The bytes of a label.
+const LABEL: usize = 8;
+
+/// Runs an operation; nothing if there is none of that name or its fields cannot be read.
+pub fn run(operation: &str, mut fields: Fields) -> Option<String> {
+    match operation {
+        "add" => add(&mut fields),
+        "take" => take(&mut fields),
+        "fill" => fill(&mut fields),
+        "check" => check(&mut fields),
+        "evaluate" => evaluate(&mut fields),
+        "pass" => pass(&mut fields),
+        "write" => write(&mut fields),
+        "read" => read(&mut fields),
+        "check-record" | "examine" => check_record(&mut fields),
+        "last" => last(&mut fields),
+        "walk" => walk(&mut fields),
+        "list" => list(&mut fields),
+        _ => None,
+    }
+}
+
+/// An answer in words, or its refusal.
+fn told<T>(answer: Result<T, u32>, words: impl Fn(T) -> String) -> String {
+    match answer {
+        Ok(value) => words(value),
+        Err(number) => format!(" refused {number}"),
+    }
+}
+
+fn verdict(evaluation: &Evaluation) -> String {
+    format!(
+        " verdict {} passes {}",
+        evaluation.verdict, evaluation.passes
+    )
+}
+
+fn cells(table: &Memory<u16>) -> String {
+    format!(", cells {}", print::cells(table))
+}
+
+fn bytes(memory: &Memory<u8>) -> String {
+    format!(", bytes {}", print::bytes(memory))
+}
+
+/// The answer of adding a sample, and the state after it.
+fn added(answer: Result<(), u32>, state: &[u64]) -> String {
+    let words = told(answer, |()| " stored".to_string());
+    format!("{words} next {} count {}", state[0], state[1])
+}
+
+fn add(fields: &mut Fields) -> Option<String> {
+    let mut slots = fields.written()?;
+    let mut state = [fields.number()?, fields.number()?];
+    let sample = fields.bytes()?.lent().first().copied().unwrap_or(0);
+    fields.end()?;
+    let answer = ring::add(slots.lent_mut(), &mut state, sample);
+    Some(added(answer, &state) + &bytes(&slots))
+}
+
+fn take(fields: &mut Fields) -> Option<String> {
+    let slots = fields.bytes()?;
+    let state = [fields.number()?, fields.number()?];
+    let mut out = fields.written()?;
+    fields.end()?;
+    let answer = ring::take(slots.lent(), &state, out.lent_mut());
+    Some(told(answer, |n| format!(" samples {n}")) + &bytes(&out))
+}
+
+fn fill(fields: &mut Fields) -> Option<String> {
+    let mut slots = fields.written()?;
+    let samples = fields.bytes()?;
+    fields.end()?;
+    let mut state = [0, 0];
+    let mut answer = Ok(());
+    for sample in samples.lent() {
+        answer = ring::add(slots.lent_mut(), &mut state, *sample);
+    }
+    Some(added(answer, &state) + &bytes(&slots))
+}
+
+fn check(fields: &mut Fields) -> Option<String> {
+    let program = fields.bytes()?;
+    fields.end()?;
+    Some(told(program::check(program.lent()), |_| {
+        " accepted".to_string()
+    }))
+}
+
+fn evaluate(fields: &mut Fields) -> Option<String> {
+    let (program, trace) = (fields.bytes()?, fields.bytes()?);
+    let n = fields.number()?;
+    let mut table = fields.cells()?;
+    fields.end()?;
+    let answer = oracle::evaluate(program.lent(), trace.lent(), n, table.lent_mut());
+    if let Ok(evaluation) = &answer {
+        same_by_passes(evaluation, program.lent(), trace.lent(), n);
+    }
+    Some(told(answer, |evaluation| verdict(&evaluation)) + &cells(&table))
+}
+
+/// Derivations and passes must come to the same cells, verdict and pass count.
+fn same_by_passes(evaluation: &Evaluation, program: &[u8], trace: &[u8], n: u64) {
+    let mut table = vec![0; evaluation.cells.len()];
+    let found = oracle::by_passes(program, trace, n, &mut table);
+    assert_eq!(found, Some((evaluation.verdict, evaluation.passes)));
+    assert_eq!(table, evaluation.cells);
+}
+
+fn pass(fields: &mut Fields) -> Option<String> {
+    let (program, trace) = (fields.bytes()?, fields.bytes()?);
+    let n = fields.number()?;
+    let mut table = fields.cells()?;
+    fields.end()?;
+    let answer = oracle::make_pass(program.lent(), trace.lent(), n, table.lent_mut());
+    Some(told(answer, |stored| format!(" stored {stored}")) + &cells(&table))
+}
+
+fn write(fields: &mut Fields) -> Option<String> {
+    let (program, trace) = (fields.bytes()?, fields.bytes()?);
+    let n = fields.number()?;
+    let mut label = fields.bytes()?.lent().to_vec();
+    label.resize(LABEL, 0);
+    let mut table = fields.cells()?;
+    let mut out = fields.written()?;
+    fields.end()?;
+    let answer = record::write(
+        program.lent(),
+        trace.lent(),
+        n,
+        label.try_into().ok()?,
+        table.lent_mut(),
+        out.lent_mut(),
+    );
+    let words = told(answer, |(length, evaluation)| {
+        format!(" length {length}{}", verdict(&evaluation))
+    });
+    Some(words + &cells(&table) + &bytes(&out))
+}
+
+/// The parts of a record: start and length of each that is in the bytes, and the numbers.
+fn parts(parts: record::Parts) -> String {
+    let (program, trace) = (parts.program, parts.trace);
+    format!(
+        " program {} {} trace {} {} n {} label {} {LABEL} verdict {} passes {}",
+        program.0, program.1, trace.0, trace.1, parts.n, parts.label, parts.verdict, parts.passes
+    )
+}
+
+fn read(fields: &mut Fields) -> Option<String> {
+    let bytes = fields.bytes()?;
+    fields.end()?;
+    Some(told(record::read(bytes.lent()), parts))
+}
+
+fn check_record(fields: &mut Fields) -> Option<String> {
+    let bytes = fields.bytes()?;
+    let mut table = fields.cells()?;
+    fields.end()?;
+    let reading = told(record::read(bytes.lent()), parts);
+    let checked = record::check(bytes.lent(), table.lent_mut());
+    let words = told(checked, |(agrees, evaluation)| {
+        let word = if agrees { "agrees" } else { "differs" };
+        format!(" {word}{}", verdict(&evaluation))
+    });
+    Some(format!(" read{reading}, check{words}{}", cells(&table)))
+}
+
+/// What stands last among so many bytes of an archive, and how many stand before it if the walk goes on.
+fn step(archive: &[u8], left: u64) -> (String, Option<u64>) {
+    let left = left.min(archive.len() as u64) as usize;
+    if left == 0 {
+        return (" end".to_string(), None);
+    }
+    let reading = record::read(&archive[..left]);
+    let before = reading.as_ref().ok().map(|parts| parts.before() as u64);
+    (told(reading, parts), before)
+}
+
+fn last(fields: &mut Fields) -> Option<String> {
+    let archive = fields.bytes()?;
+    let left = fields.number()?;
+    fields.end()?;
+    Some(step(archive.lent(), left).0)
+}
+
+fn walk(fields: &mut Fields) -> Option<String> {
+    let archive = fields.bytes()?;
+    fields.end()?;
+    let mut text = String::new();
+    let mut next = Some(archive.lent().len() as u64);
+    while let Some(left) = next {
+        let (words, before) = step(archive.lent(), left);
+        text += &format!("\nlast of {left}:{words}");
+        next = before;
+    }
+    Some(text)
+}
+
+fn list(fields: &mut Fields) -> Option<String> {
+    let archive = fields.bytes()?;
+    fields.end()?;
+    let text = listing::text(archive.lent());
+    Some(format!("\n{}", text.strip_suffix('\n')?))
+}
