@@ -1,7 +1,4 @@
 // The answers of the library in words and numbers.
-use crate::fields::LOST;
-use crate::printing::told;
-use crate::printing::words;
 use archive::Step;
 use evaluate::Evaluated;
 use evaluate::PassMade;
@@ -15,6 +12,9 @@ use refusal::Refusal;
 use ring::Added;
 use ring::Ring;
 use ring::Taken;
+use script::fields::LOST;
+use script::printing::told;
+use script::printing::words;
 use semantics::Verdict;
 
 fn refused(refusal: Refusal) {

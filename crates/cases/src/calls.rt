@@ -1,15 +1,15 @@
 // The calls of the library that the operations make.
 use crate::answers;
-use crate::fields;
 use crate::operations::CELLS_AT;
 use crate::operations::PLACES;
 use crate::operations::SECOND;
 use crate::operations::THIRD;
 use crate::operations::WRITTEN_AT;
-use crate::parts;
-use crate::printing;
 use ring::Added;
 use ring::Ring;
+use script::fields;
+use script::parts;
+use script::printing;
 
 // The numbers of operations: before CHECK those on a ring, before EVALUATE those that only read.
 const ADD: usize = 0;

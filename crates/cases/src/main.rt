@@ -27,12 +27,10 @@
 // A line that cannot be read ends the run with 'cannot read line' and its number.
 mod answers;
 mod calls;
-mod fields;
 mod operations;
-mod parts;
-mod printing;
 
 use libc::STDIN_FILENO;
+use script::printing;
 
 // The longest script.
 const MOST_SCRIPT: usize = 65536;

@@ -1,9 +1,9 @@
 // The operations: their names, and the fields that they read.
 use crate::calls;
-use crate::fields;
-use crate::fields::Lent;
-use crate::parts;
-use crate::printing;
+use script::fields;
+use script::fields::Lent;
+use script::parts;
+use script::printing;
 
 // The bytes that are read in a case, the bytes and the cells that may be written.
 const GIVEN: usize = 40000;

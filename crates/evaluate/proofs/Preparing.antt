@@ -50,7 +50,8 @@ module _ (bytes trace : List ℕ) (n lent : ℕ) where
     pub trace-refused : {c : Check} {f : Refusal} → c ≡ traceCheck n (length trace) → c ≡ Refused f → evaluateCheck bytes trace n lent ≡ Refused f
     trace-refused e q = rw (read, ← e, q)
 
-    pub table-left : {c : Check} {total : ℕ} → c ≡ traceCheck n (length trace) → c ≡ Passed → total ≡ cells (samples trace n) P → evaluateCheck bytes trace n lent ≡ tableCheck total lent
+    pub table-left : {c : Check} {total : ℕ} → c ≡ traceCheck n (length trace) → c ≡ Passed → total ≡ cells (samples trace n) P
+        → evaluateCheck bytes trace n lent ≡ tableCheck total lent
     table-left e q k = rw (read, ← e, q, k)
 
 pub trace-passed : (n size : ℕ) {c : Check} → c ≡ traceCheck n size → c ≡ Passed → (n ≤ mostSamples) × (size ≡ bytesFor n)

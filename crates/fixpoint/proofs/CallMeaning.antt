@@ -30,10 +30,11 @@ use Rattle.rule.specs.Form.{isList}
 use Rattle.rule.specs.Reading.{kindAt, kindsFrom}
 use Rattle.rule.proofs.KindBytes.{kinds-back}
 use Rattle.rule.proofs.WalkMeaning.{kind-bit}
-use Rattle.fixpoint.specs.Mirror.{Setup, bound, digitBound, nextIndex, radixOf, digitCode, endsCall, kindsOf, endAt, lookupAt, argsAt}
+use Rattle.codes.specs.{bound, digitBound, nextIndex, radixOf, digitCode, endsCall}
+use Rattle.fixpoint.specs.Mirror.{Setup, kindsOf, endAt, lookupAt, argsAt}
 use Rattle.fixpoint.proofs.Sets.{firstCell, Sets}
-use Rattle.fixpoint.proofs.CellMeaning.{first-cell, first-within, result-bit, decided-means}
-use Rattle.fixpoint.proofs.CodeMeaning.{OfKind, digit-means, value-goes, radix-means}
+use Rattle.fixpoint.proofs.CellMeaning.{first-cell, first-within, result-bit, decided-means, radix-means}
+use Rattle.codes.proofs.CodeMeaning.{OfKind, digit-means, value-goes}
 
 -- ---- The look-up
 
@@ -140,9 +141,11 @@ module _ (t : Trace) (S : Setup) (T : Table) (g : ℕ) (i index : ℕ) (k : List
       found = λ vs hs. rw (regroup index (kindSize t κ) (digitOf v) (size t κs) (number t κs vs)) (due .found (v ∷ vs) (h, hs));
     }
 
-    pub args-one : length t ≤ mostSamples → (eval : ℕ → ℕ) (at : ℕ) (r : Option Outcome) (rs : Option Arguments) → OfKind t κ r → eval at ≡ contentOf r
+    pub args-one : length t ≤ mostSamples → (eval : ℕ → ℕ) (at : ℕ) (r : Option Outcome) (rs : Option Arguments) → OfKind t κ r
+        → eval at ≡ contentOf r
         → ((v : Value) → dec.T (inKind t κ v)
-        → argsAt S T (length t) eval g (length κs) (suc i) (index * kindSize t κ + digitOf v) (endAt (S .ends) at) ≡ contentOf (withValues Failed rs (λ vs. k (v ∷ vs))))
+        → argsAt S T (length t) eval g (length κs) (suc i) (index * kindSize t κ + digitOf v) (endAt (S .ends) at)
+        ≡ contentOf (withValues Failed rs (λ vs. k (v ∷ vs))))
         → argsAt S T (length t) eval g (length (κ ∷ κs)) i index at
         ≡ contentOf (withValues Failed (withValue failed r (λ v. withValues failed rs (λ vs. some (values (v ∷ vs))))) k)
     unfolding argsAt

@@ -4,25 +4,23 @@
 --   config-first     the configuration of a cell of a function
 --   result-bit       a function's result kind, by its kinds byte
 --   decided-means    the number of what a cell holds
-use Prim.Native.Nat.{ℕ, zero, suc, _+_, _-_, _≤_, _<_}
+--   radix-means      how many values a kind has
+use Prim.Native.Nat.{ℕ, zero, suc, _+_, _≤_, _<_}
 use native.Mathlib.Omega.{arith}
-use mathlib.Core.Path.{_≡_, refl, sym, ap, _∙_}
-use mathlib.Core.Bool.{Bool, true, false, cond}
+use mathlib.Core.Path.{_≡_, sym, ap, _∙_}
 use mathlib.Core.List.{List, [], _∷_}
-use mathlib.Core.Option.{none, some}
+use mathlib.Core.Option.{some}
 use lib.ListN.{length, getElem?}
-use lib.Dec.{leb}
-use borrow.Author.Tests.{lt-ltb, le-ltb, leb-true, leb-false}
 use Rattle.trace.specs.{bitOf}
-use Rattle.semantics.specs.declared.Outcome.the-variants.{Suffix}
 use Rattle.semantics.specs.Language.{Kind, truth, list, Function, Program, Trace, Value}
-use Rattle.semantics.specs.Numbering.{size, number, valuesAt, cells, cellOf, configAt}
+use Rattle.semantics.specs.Numbering.{kindSize, size, number, valuesAt, cells, cellOf, configAt}
 use Rattle.semantics.specs.Cells.{contentOf, outcomeIn}
 use Rattle.semantics.proofs.Numbering.{number-values, values-in, config-cell}
 use Rattle.rule.specs.Form.{mostParams, isList, kindsByte}
 use Rattle.rule.proofs.KindBytes.{kinds-back}
 use Rattle.rule.proofs.WalkMeaning.{kind-bit}
-use Rattle.fixpoint.specs.Mirror.{decidedCode}
+use Rattle.codes.specs.{decidedCode, radixOf}
+use Rattle.codes.proofs.CodeMeaning.{decided-truth, decided-list, radix-truth, radix-list}
 use Rattle.fixpoint.proofs.Sets.{firstCell}
 
 -- ---- Places of cells
@@ -50,32 +48,12 @@ config-first t P g f i e h =
 pub result-bit : (params : List Kind) (result : Kind) → length params ≤ mostParams → bitOf 4 (kindsByte params result) ≡ isList result
 result-bit params result few = sym (kind-bit (kindsByte params result) 4) ∙ ap isList (kinds-back params result few .1)
 
--- a list function's cell that is the number of a suffix
-decided-suffix : (n k cell : ℕ) → cell ≡ 5 + k → decidedCode true n cell ≡ contentOf (cond (leb k n) (some (Suffix k)) none)
-decided-suffix n k cell e = go (leb k n) refl
-  where
-    back : cell - 5 ≡ k
-    back = omega arith
-
-    go : (b : Bool) → leb k n ≡ b → decidedCode true n cell ≡ contentOf (cond b (some (Suffix k)) none)
-    go true h =
-        let l = leb-true k n h in
-        simp (le-ltb cell 3 (omega arith), le-ltb cell 5 (omega arith), back, le-ltb n k l) e
-    go false h =
-        let l = leb-false k n h in
-        simp (le-ltb cell 3 (omega arith), le-ltb cell 5 (omega arith), back, lt-ltb n k l)
-
 pub decided-means : (t : Trace) (κ : Kind) (cell : ℕ) → decidedCode (isList κ) (length t) cell ≡ contentOf (outcomeIn t κ cell)
-unfolding outcomeIn
-decided-means t truth zero = refl
-decided-means t truth (suc zero) = refl
-decided-means t truth (suc (suc zero)) = refl
-decided-means t truth (suc (suc (suc zero))) = refl
-decided-means t truth (suc (suc (suc (suc zero)))) = refl
-decided-means t truth (suc (suc (suc (suc (suc k))))) = rw (lt-ltb 4 (suc (suc (suc (suc (suc k))))) (omega arith))
-decided-means t list zero = refl
-decided-means t list (suc zero) = refl
-decided-means t list (suc (suc zero)) = refl
-decided-means t list (suc (suc (suc zero))) = refl
-decided-means t list (suc (suc (suc (suc zero)))) = refl
-decided-means t list (suc (suc (suc (suc (suc k))))) = decided-suffix (length t) k (suc (suc (suc (suc (suc k))))) (omega arith)
+decided-means t truth cell = decided-truth t cell
+decided-means t list cell = decided-list t cell
+
+-- ---- How many values a kind has
+
+pub radix-means : (t : Trace) (κ : Kind) → radixOf (isList κ) (length t) ≡ kindSize t κ
+radix-means t truth = radix-truth t
+radix-means t list = radix-list t

@@ -60,7 +60,8 @@ starts-within bytes at e s =
 
 -- ---- Operands, by the ends after a place
 
-module _ (P : Program) (bytes : List ℕ) (short : length bytes ≤ mostBytes) (low : ℕ) (ends : List ℕ) (u : Ends P bytes low ends) (Γ : List Kind) (narrow : length Γ ≤ mostParams) where
+module _ (P : Program) (bytes : List ℕ) (short : length bytes ≤ mostBytes) (low : ℕ) (ends : List ℕ) (u : Ends P bytes low ends)
+    (Γ : List Kind) (narrow : length Γ ≤ mostParams) where
   operand : (κ : Kind) (e : Expr) (at : ℕ) (rest : List ℕ) → low ≤ at → Meets P Γ κ e → drop at bytes ≡ encodeExpr e ++ rest
       → (endAt ends at ≡ at + length (encodeExpr e)) × (drop (at + length (encodeExpr e)) bytes ≡ rest)
   unfolding endAt
@@ -75,7 +76,8 @@ module _ (P : Program) (bytes : List ℕ) (short : length bytes ≤ mostBytes) (
   operands (arg e xs) κs at rest h m d =
       let first = operand (m .0) e at (encodeArgs xs ++ rest) h (m .3) (d ∙ append-assoc (encodeExpr e) (encodeArgs xs) rest) in
       let later = operands xs (m .1) (at + length (encodeExpr e)) rest (omega arith) (m .4) (first .1) in
-      let sum : at + length (encodeExpr e) + length (encodeArgs xs) ≡ at + length (encodeExpr e ++ encodeArgs xs) = omega (arith, length-append (encodeExpr e) (encodeArgs xs)) in
+      let sum : at + length (encodeExpr e) + length (encodeArgs xs) ≡ at + length (encodeExpr e ++ encodeArgs xs) =
+      omega (arith, length-append (encodeExpr e) (encodeArgs xs)) in
       ap (λ (ks : List Kind). endsAfter ends (length ks) at) (m .2) ∙ ap (endsAfter ends (length (m .1))) (first .0) ∙ later ∙ sum
 
 -- ---- The expression at a place, by the ends after it
@@ -92,14 +94,16 @@ module _ {bytes : List ℕ} {P : Program} (a : Accepted bytes P) (ends : List �
       → endBy (padded mostBytes 0 bytes) (outlineOf P .params) ends at ≡ endsAfter ends (operandsOf (outlineOf P .params) n) (at + 1)
   unfolding endBy
   by-node b bs n d e =
-      ap (λ (x : Node). endsAfter ends (operandsOf (outlineOf P .params) x) (at + 1)) (ap nodeOf (getD-padded mostBytes 0 bytes at ∙ byte-here bytes at d) ∙ e)
+      ap (λ (x : Node). endsAfter ends (operandsOf (outlineOf P .params) x) (at + 1))
+      (ap nodeOf (getD-padded mostBytes 0 bytes at ∙ byte-here bytes at d) ∙ e)
 
   module _ (u : Ends P bytes (at + 1) ends) (Γ : List Kind) (narrow : length Γ ≤ mostParams) (rest : List ℕ) where
     op-end : (p : Op) (e : Expr) → Meets P Γ list e → drop at bytes ≡ opByte p ∷ (encodeExpr e ++ rest)
         → endBy (padded mostBytes 0 bytes) (outlineOf P .params) ends at ≡ at + 1 + length (encodeExpr e)
     unfolding endsAfter
     op-end p e m d =
-        by-node _ _ _ d (node-op p) ∙ one p ∙ operand P bytes (a .short) (at + 1) ends u Γ narrow list e (at + 1) rest (omega arith) m (bytes-after bytes at d) .0
+        by-node _ _ _ d (node-op p) ∙ one p
+        ∙ operand P bytes (a .short) (at + 1) ends u Γ narrow list e (at + 1) rest (omega arith) m (bytes-after bytes at d) .0
       where
         one : (q : Op) → endsAfter ends (operandsOf (outlineOf P .params) (opNode q)) (at + 1) ≡ endAt ends (at + 1)
         one hd = refl
@@ -108,7 +112,8 @@ module _ {bytes : List ℕ} {P : Program} (a : Accepted bytes P) (ends : List �
 
     if-end : (κ : Kind) (c x y : Expr) → Meets P Γ truth c → Meets P Γ κ x → Meets P Γ κ y
         → drop at bytes ≡ 0x23 ∷ (encodeExpr c ++ (encodeExpr x ++ (encodeExpr y ++ rest)))
-        → endBy (padded mostBytes 0 bytes) (outlineOf P .params) ends at ≡ at + 1 + length (encodeExpr c) + length (encodeExpr x) + length (encodeExpr y)
+        → endBy (padded mostBytes 0 bytes) (outlineOf P .params) ends at
+        ≡ at + 1 + length (encodeExpr c) + length (encodeExpr x) + length (encodeExpr y)
     unfolding endsAfter
     if-end κ c x y mc mx my d =
         let at₁ = at + 1 in
@@ -139,7 +144,8 @@ module _ {bytes : List ℕ} {P : Program} (a : Accepted bytes P) (ends : List �
   node-end u (param i) s = by-node _ _ _ (s .here) (node-param {i = i} (omega (arith, place-below (s .Γ) i (s .κ) (s .meets), s .narrow)))
   node-end u (op p e) s = op-end u (s .Γ) (s .narrow) (s .rest) p e (s .meets .1) (s .here) ∙ omega arith
   node-end u (ifte c x y) s =
-      let sum : at + 1 + length (encodeExpr c) + length (encodeExpr x) + length (encodeExpr y) ≡ at + suc (length (encodeExpr c ++ (encodeExpr x ++ encodeExpr y)))
+      let sum : at + 1 + length (encodeExpr c) + length (encodeExpr x) + length (encodeExpr y)
+      ≡ at + suc (length (encodeExpr c ++ (encodeExpr x ++ encodeExpr y)))
       = simp length-append (omega arith) in
       if-end u (s .Γ) (s .narrow) (s .rest) (s .κ) c x y (s .meets .0) (s .meets .1) (s .meets .2) (simp append-assoc at (s .here)) ∙ sum
   node-end u (call g xs) s = call-end u (s .Γ) (s .narrow) (s .rest) g (s .meets .0) xs (s .meets .1) (s .meets .3) (s .here) ∙ omega arith
@@ -169,7 +175,8 @@ module _ {bytes : List ℕ} {P : Program} (a : Accepted bytes P) (z : List ℕ) 
       let u = ends-upto k (at + 1) (omega arith) in
       ends-one a at later (omega (arith, a .short)) u
 
-pub ends-mean : {bytes : List ℕ} {P : Program} → Accepted bytes P → (at : ℕ) (Γ : List Kind) (κ : Kind) (e : Expr) (rest : List ℕ) → length Γ ≤ mostParams
+pub ends-mean : {bytes : List ℕ} {P : Program} → Accepted bytes P → (at : ℕ) (Γ : List Kind) (κ : Kind) (e : Expr) (rest : List ℕ)
+    → length Γ ≤ mostParams
     → Meets P Γ κ e → drop at bytes ≡ encodeExpr e ++ rest
     → getD (endsDown (padded mostBytes 0 bytes) (outlineOf P .params) (length bytes) 0 (replicate mostBytes 0)) at 0 ≡ at + length (encodeExpr e)
 ends-mean {bytes} {P} a at Γ κ e rest narrow m d =

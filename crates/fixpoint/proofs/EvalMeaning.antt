@@ -5,23 +5,24 @@ use native.Mathlib.Omega.{arith}
 use mathlib.Core.Path.{_≡_, refl, _∙_}
 use mathlib.Core.Bool.{true, false}
 use mathlib.Core.List.{List, [], _∷_, _++_, append-assoc}
-use mathlib.Core.Option.{Option, some}
+use mathlib.Core.Option.{Option, none, some}
 use lib.ListN.{length, getElem?, getD, drop}
 use borrow.Author.Tests.{lt-ltb, lt-leb}
+use Rattle.semantics.specs.declared.Error.the-variants.{Head, Tail}
 use Rattle.semantics.specs.declared.Outcome.{Outcome}
-use Rattle.semantics.specs.declared.Outcome.the-variants.{Failed}
+use Rattle.semantics.specs.declared.Outcome.the-variants.{Truth, Suffix, Failed}
 use Rattle.semantics.specs.Language.{Kind, truth, list, Op, hd, tl, null, Expr, constant, empty, param, op, ifte, call, Args, noArgs, arg, Program, Trace, Value, InKinds, Meets, MeetAll}
 use Rattle.semantics.specs.Cells.{contentOf}
-use Rattle.semantics.specs.Bodies.{paramValue, bodyOutcome, argsOutcome, withValues}
+use Rattle.semantics.specs.Bodies.{paramValue, bodyOutcome, argsOutcome, withValue, withValues, chosen}
 use Rattle.semantics.specs.Visits.{Table, lookup}
 use Rattle.semantics.proofs.Bodies.{kinded}
 use Rattle.semantics.proofs.Visits.{lookup-kinds}
 use Rattle.rule.specs.Form.{mostParams, encodeExpr, encodeArgs, depth, depthAll}
 use Rattle.rule.proofs.NodeBytes.{node-false, node-true, node-empty, node-if, opNode, node-op, node-param, node-call}
 use Rattle.rule.proofs.Expressions.{place-below}
+use Rattle.codes.proofs.CodeMeaning.{OfKind, head-means, tail-means, null-means}
 use Rattle.fixpoint.specs.Mirror.{Setup, paramAt, endAt, argsAt, callBy, branchBy, nodeBy, evalAt}
 use Rattle.fixpoint.proofs.Sets.{EnvOf, Sets}
-use Rattle.fixpoint.proofs.CodeMeaning.{OfKind, head-means, tail-means, null-means, branch-means}
 use Rattle.fixpoint.proofs.PlaceMeaning.{byte-after, node-at, expr-after}
 use Rattle.fixpoint.proofs.CallMeaning.{Due, due-first, due-next, args-one, args-none}
 
@@ -35,6 +36,17 @@ value-there t [] vs hs i κ e = let z : _≡_ {A = ℕ} 0 1 = cc in absurd (omeg
 value-there t (k ∷ Γ) [] hs i κ e = absurd hs
 value-there t (k ∷ Γ) (v ∷ vs) hs zero κ e = (v, refl)
 value-there t (k ∷ Γ) (v ∷ vs) hs (suc i) κ e = value-there t Γ vs (hs .1) i κ e
+
+-- the if, by the numbers of what its parts give
+branch-means : (t : Trace) (S : Setup) (eval : ℕ → ℕ) (at : ℕ) (c a b : Option Outcome) → OfKind t truth c → eval at ≡ contentOf c
+    → eval (endAt (S .ends) at) ≡ contentOf a → eval (endAt (S .ends) (endAt (S .ends) at)) ≡ contentOf b
+    → branchBy S eval at ≡ contentOf (withValue Failed c (chosen a b))
+branch-means t S eval at none a b h p q r = rw p
+branch-means t S eval at (some (Truth true)) a b h p q r = rw p q
+branch-means t S eval at (some (Truth false)) a b h p q r = rw p r
+branch-means t S eval at (some (Suffix k)) a b h p q r = absurd (h (Suffix k) refl)
+branch-means t S eval at (some (Failed Head)) a b h p q r = rw p
+branch-means t S eval at (some (Failed Tail)) a b h p q r = rw p
 
 module _ (P : Program) (t : Trace) (bytes : List ℕ) (S : Setup) (s : Sets P t bytes S) (T : Table)
     (Γ : List Kind) (vs : List Value) (hs : InKinds t Γ vs) (narrow : length Γ ≤ mostParams) (env : List ℕ) (en : EnvOf env vs (length t)) where
@@ -55,7 +67,8 @@ module _ (P : Program) (t : Trace) (bytes : List ℕ) (S : Setup) (s : Sets P t 
 
   module _ (eval : ℕ → ℕ) where
     abbrev Means : Expr → Type 0
-    Means e = (κ : Kind) (at : ℕ) (rest : List ℕ) → Meets P Γ κ e → drop at bytes ≡ encodeExpr e ++ rest → eval at ≡ contentOf (bodyOutcome t calls vs e)
+    Means e = (κ : Kind) (at : ℕ) (rest : List ℕ) → Meets P Γ κ e → drop at bytes ≡ encodeExpr e ++ rest
+        → eval at ≡ contentOf (bodyOutcome t calls vs e)
 
     op-node : (p : Op) (e : Expr) (at : ℕ) (rest : List ℕ) → Means e → Meets P Γ list e → drop at bytes ≡ encodeExpr e ++ rest
         → nodeBy S T env eval at (opNode p) ≡ contentOf (bodyOutcome t calls vs (op p e))
@@ -76,7 +89,8 @@ module _ (P : Program) (t : Trace) (bytes : List ℕ) (S : Setup) (s : Sets P t 
         (hc truth at _ (m .0) h) (ha κ (endAt (S .ends) at) _ (m .1) h′) (hb κ (endAt (S .ends) (endAt (S .ends) at)) rest (m .2) h″)
 
     abbrev MeansAll : Args → Type 0
-    MeansAll xs = (g : ℕ) (κs : List Kind) (i index at : ℕ) (rest : List ℕ) (k : List Value → Option Outcome) → MeetAll P Γ κs xs → Due t S T g κs i index k
+    MeansAll xs = (g : ℕ) (κs : List Kind) (i index at : ℕ) (rest : List ℕ) (k : List Value → Option Outcome) → MeetAll P Γ κs xs
+        → Due t S T g κs i index k
         → drop at bytes ≡ encodeArgs xs ++ rest
         → argsAt S T (length t) eval g (length κs) i index at ≡ contentOf (withValues Failed (argsOutcome t calls vs xs) k)
 
@@ -125,7 +139,8 @@ module _ (P : Program) (t : Trace) (bytes : List ℕ) (S : Setup) (s : Sets P t 
         let la : depth a ≤ d = omega arith in
         let lb : depth b ≤ d = omega arith in
         node-at P t bytes S s T env d at _ _ _ q node-if
-        ∙ if-node (evalAt S T env d) c a b κ (at + 1) rest (λ κ′ to r n w. eval-means c κ′ d to r n lc w) (λ κ′ to r n w. eval-means a κ′ d to r n la w)
+        ∙ if-node (evalAt S T env d) c a b κ (at + 1) rest (λ κ′ to r n w. eval-means c κ′ d to r n lc w)
+        (λ κ′ to r n w. eval-means a κ′ d to r n la w)
         (λ κ′ to r n w. eval-means b κ′ d to r n lb w) m (byte-after bytes at _ _ q ∙ append-four (encodeExpr c) (encodeExpr a) (encodeExpr b) rest)
     eval-means (call g xs) κ zero at rest m h q = absurd (omega arith)
     eval-means (call g xs) κ (suc d) at rest m h q =

@@ -22,8 +22,9 @@ use Rattle.rule.specs.Form.{mostBytes}
 use Rattle.rule.specs.Reading.{nodeOf}
 use Rattle.rule.proofs.NodeBytes.{node-false, node-true, node-param, node-op}
 use Rattle.fixpoint.proofs.SetupLoops.{few-bound}
-use Rattle.fixpoint.specs.Mirror.{Setup, headOf, tailOf, nullOf, decidedCode, digitCode, radixOf, bound, nextIndex, firstOf, kindsOf}
-use Rattle.fixpoint.specs.Mirror.{countOf, paramAt, endAt, lookupAt, endsCall, argsAt, nodeBy, evalAt, branchAt, callAt}
+use Rattle.codes.specs.{headOf, tailOf, nullOf, decidedCode, digitCode, radixOf, bound, nextIndex, endsCall}
+use Rattle.fixpoint.specs.Mirror.{Setup, firstOf, kindsOf}
+use Rattle.fixpoint.specs.Mirror.{countOf, paramAt, endAt, lookupAt, argsAt, nodeBy, evalAt, branchAt, callAt}
 
 module _ (functions table : List ℕ) (n g index : ℕ) where
   pub lookup-far : bound ≤ firstOf functions g → lookupAt functions table n g index ≡ 0
@@ -91,7 +92,8 @@ module _ (S : Setup) (table env : List ℕ) (d at : ℕ) where
   unfolding branchAt
   branch-true e q t = simp (sym e ∙ t, sym q)
 
-  pub branch-false : {v m k : ℕ} → v ≡ evalAt S table env d at → m ≡ endAt (S .ends) at → k ≡ endAt (S .ends) m → v ≡ 1 → branchAt S table env d at ≡ evalAt S table env d k
+  pub branch-false : {v m k : ℕ} → v ≡ evalAt S table env d at → m ≡ endAt (S .ends) at → k ≡ endAt (S .ends) m → v ≡ 1
+      → branchAt S table env d at ≡ evalAt S table env d k
   unfolding branchAt
   branch-false e q r t = simp (sym e ∙ t, sym q, sym r)
 
@@ -103,7 +105,8 @@ module _ (S : Setup) (table env : List ℕ) (d at : ℕ) where
   unfolding callAt
   call-none g h = simp (le-leb _ _ h)
 
-  pub call-args : (g : ℕ) {count : ℕ} → g < 32 → count ≡ countOf (S .functions) g → callAt S table env d at g ≡ argsAt S table (getD env 4 0) (evalAt S table env d) g count 0 0 at
+  pub call-args : (g : ℕ) {count : ℕ} → g < 32 → count ≡ countOf (S .functions) g
+      → callAt S table env d at g ≡ argsAt S table (getD env 4 0) (evalAt S table env d) g count 0 0 at
   unfolding callAt
   call-args g h e = simp (lt-leb _ _ h, sym e)
 
@@ -113,9 +116,15 @@ pub record Along (S : Setup) (table : List ℕ) (n : ℕ) (eval : ℕ → ℕ) (
   pub most : count ≤ 4
   pub rest : argsAt S table n eval g (count - i) i index place ≡ argsAt S table n eval g count 0 0 at
 
-pub along-start : (S : Setup) (table : List ℕ) (n : ℕ) (eval : ℕ → ℕ) (g at : ℕ) {count : ℕ} → count ≡ countOf (S .functions) g → Along S table n eval g count at 0 at 0
+pub along-start : (S : Setup) (table : List ℕ) (n : ℕ) (eval : ℕ → ℕ) (g at : ℕ) {count : ℕ} → count ≡ countOf (S .functions) g
+    → Along S table n eval g count at 0 at 0
 along-start S table n eval g at e =
-    record { below = omega arith; most = rw e (few-bound (getD (S .functions) (64 + g) 0)); rest = ap (λ (c : ℕ). argsAt S table n eval g c 0 0 at) (omega arith) }
+    record {
+      below = omega arith;
+      most = rw e (few-bound (getD (S .functions) (64 + g) 0));
+      rest =
+          ap (λ (c : ℕ). argsAt S table n eval g c 0 0 at) (omega arith);
+    }
 
 module _ {S : Setup} {table : List ℕ} {n : ℕ} {eval : ℕ → ℕ} {g count at index place i : ℕ} (u : Along S table n eval g count at index place i) where
   pub along-end : count ≤ i → argsAt S table n eval g count 0 0 at ≡ lookupAt (S .functions) table n g index
@@ -129,9 +138,13 @@ module _ {S : Setup} {table : List ℕ} {n : ℕ} {eval : ℕ → ℕ} {g count 
   unfolding argsAt
   along-stop h k e q s = along-next h ∙ simp (sym e ∙ q, s)
 
-  along-past : i < count → {v : ℕ} → v ≡ eval place → (v ≡ 0 → ⊥) → (v ≡ 3 → ⊥) → (v ≡ 4 → ⊥) → {b : Bool} {r j x m : ℕ} → b ≡ bitOf i (kindsOf (S .functions) g) → r ≡ radixOf b n → j ≡ digitCode v → x ≡ nextIndex index r j → m ≡ endAt (S .ends) place → argsAt S table n eval g count 0 0 at ≡ argsAt S table n eval g (count - (i + 1)) (i + 1) x m
+  along-past : i < count → {v : ℕ} → v ≡ eval place → (v ≡ 0 → ⊥) → (v ≡ 3 → ⊥) → (v ≡ 4 → ⊥) → {b : Bool} {r j x m : ℕ}
+      → b ≡ bitOf i (kindsOf (S .functions) g) → r ≡ radixOf b n → j ≡ digitCode v → x ≡ nextIndex index r j → m ≡ endAt (S .ends) place
+      → argsAt S table n eval g count 0 0 at ≡ argsAt S table n eval g (count - (i + 1)) (i + 1) x m
   unfolding argsAt
   along-past h e z t f p o q w s = along-next h ∙ simp (sym e, ne-eqb _ _ z, ne-eqb _ _ t, ne-eqb _ _ f, sym p, sym o, sym q, sym w, sym s)
 
-  pub along-more : i < count → {v : ℕ} → v ≡ eval place → (v ≡ 0 → ⊥) → (v ≡ 3 → ⊥) → (v ≡ 4 → ⊥) → {b : Bool} {r j x m : ℕ} → b ≡ bitOf i (kindsOf (S .functions) g) → r ≡ radixOf b n → j ≡ digitCode v → x ≡ nextIndex index r j → m ≡ endAt (S .ends) place → Along S table n eval g count at x m (i + 1)
+  pub along-more : i < count → {v : ℕ} → v ≡ eval place → (v ≡ 0 → ⊥) → (v ≡ 3 → ⊥) → (v ≡ 4 → ⊥) → {b : Bool} {r j x m : ℕ}
+      → b ≡ bitOf i (kindsOf (S .functions) g) → r ≡ radixOf b n → j ≡ digitCode v → x ≡ nextIndex index r j → m ≡ endAt (S .ends) place
+      → Along S table n eval g count at x m (i + 1)
   along-more h e z t f p o q w s = record { below = omega arith; most = u .most; rest = sym (along-past h e z t f p o q w s) }

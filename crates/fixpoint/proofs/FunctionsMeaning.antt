@@ -26,7 +26,8 @@ use Rattle.rule.proofs.Expressions.{place-below}
 use Rattle.rule.proofs.OutlineMeaning.{there, getD-mapped}
 use Rattle.rule.proofs.WalkMeaning.{at-most-four}
 use Rattle.rule.specs.Walk.{atMostFour}
-use Rattle.fixpoint.specs.Mirror.{radixOf, sizeFrom, firstOf, kindsOf, countOf, totalBefore, functionsUpto}
+use Rattle.codes.specs.{radixOf}
+use Rattle.fixpoint.specs.Mirror.{sizeFrom, firstOf, kindsOf, countOf, totalBefore, functionsUpto}
 use Rattle.fixpoint.proofs.Sets.{firstCell}
 
 module _ (P : Program) (g : ℕ) (f : Function) (e : getElem? P g ≡ some f) where
@@ -59,7 +60,8 @@ size-means t params result h = size-from t (kindsByte params result) 0 (length p
 
 -- ---- First cells
 
-cells-more : (t : Trace) (P : Program) (g : ℕ) (f : Function) → getElem? P g ≡ some f → cells t (take g P) + size t (f .params) ≡ cells t (take (suc g) P)
+cells-more : (t : Trace) (P : Program) (g : ℕ) (f : Function) → getElem? P g ≡ some f
+    → cells t (take g P) + size t (f .params) ≡ cells t (take (suc g) P)
 cells-more t [] g f e = let no : _≡_ {A = ℕ} 0 1 = cc in absurd (omega arith)
 cells-more t (x ∷ P) zero f e = let same : f ≡ x = cc in rw same (omega arith)
 cells-more t (x ∷ P) (suc g) f e = omega (arith, cells-more t P g f e)
@@ -71,7 +73,14 @@ module _ (P : Program) (t : Trace) (small : (g : ℕ) (f : Function) → getElem
   total-before (suc g) h =
       let x = there P g h in
       let f = x .0 in
-      rw (kinds-at P g f (x .1), params-at P g f (x .1), at-most-four (length (f .params)) (small g f (x .1)), size-means t (f .params) (f .result) (small g f (x .1)), total-before g (omega arith))
+      rw (
+        kinds-at P g f (x .1),
+        params-at P g f (x .1),
+        at-most-four (length (f .params)) (small g f (x .1)),
+        size-means t (f .params)
+            (f .result) (small g f (x .1)),
+        total-before g (omega arith),
+      )
       (cells-more t P g f (x .1))
 
 -- ---- The array
@@ -126,7 +135,8 @@ module _ (kinds params : List ℕ) (n : ℕ) where
   entry : (m g : ℕ) → g < m → m ≤ 32 → Entry (functionsUpto kinds params n m) g
   unfolding functionsUpto written
   entry zero g h b = absurd (omega arith)
-  entry (suc m) g h b = ⊎-elim last (λ l. entry-other m g (functionsUpto kinds params n m) l b (entry m g l (omega arith))) (eq-or-lt-of-le (omega arith))
+  entry (suc m) g h b = ⊎-elim last (λ l. entry-other m g (functionsUpto kinds params n m) l b (entry m g l (omega arith)))
+      (eq-or-lt-of-le (omega arith))
     where
       last : g ≡ m → Entry (written m (functionsUpto kinds params n m)) g
       last e = rw e (entry-same m (functionsUpto kinds params n m) b (length-functions m))
@@ -141,7 +151,8 @@ module _ {bytes : List ℕ} {P : Program} (a : Accepted bytes P) (t : Trace) whe
   total-means = total-before P t small (length P) (omega arith) ∙ ap (cells t) (take-length P)
 
   module _ (g : ℕ) (f : Function) (e : getElem? P g ≡ some f) where
-    entry-of : Entry (outlineOf P .kinds) (outlineOf P .params) (length t) (functionsUpto (outlineOf P .kinds) (outlineOf P .params) (length t) (length P)) g
+    entry-of : Entry (outlineOf P .kinds) (outlineOf P .params) (length t)
+        (functionsUpto (outlineOf P .kinds) (outlineOf P .params) (length t) (length P)) g
     entry-of = entry (outlineOf P .kinds) (outlineOf P .params) (length t) (length P) g (place-below P g f e) (a .few)
 
     pub first-means : firstOf (functionsUpto (outlineOf P .kinds) (outlineOf P .params) (length t) (length P)) g ≡ firstCell t P g

@@ -1,6 +1,5 @@
 pub mod Sets
 pub mod CellMeaning
-pub mod CodeMeaning
 pub mod PlaceMeaning
 pub mod CallMeaning
 pub mod EvalMeaning

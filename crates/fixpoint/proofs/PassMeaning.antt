@@ -28,7 +28,8 @@ use Rattle.semantics.proofs.Numbering.{values-in}
 use Rattle.rule.specs.Form.{mostDepth, encodeExpr, depth}
 use Rattle.rule.proofs.Expressions.{place-below}
 use Rattle.rule.proofs.OutlineMeaning.{there}
-use Rattle.fixpoint.specs.Mirror.{decidedCode, Setup, kindsOf, sizeOf, envAt, filledAt, storedAt, visitAt, oneUnless, functionVisits}
+use Rattle.codes.specs.{decidedCode}
+use Rattle.fixpoint.specs.Mirror.{Setup, kindsOf, sizeOf, envAt, filledAt, storedAt, visitAt, oneUnless, functionVisits}
 use Rattle.fixpoint.specs.Mirror.{functionStores, Ready, passVisits, passCounts}
 use Rattle.fixpoint.proofs.Sets.{firstCell, EnvOf, Sets}
 use Rattle.fixpoint.proofs.CellMeaning.{first-within, config-first, result-bit, decided-means}

@@ -20,7 +20,8 @@ use lib.ListN.{length, getD, set, drop, replicate, length-set, drop-of-length-le
 use borrow.Author.Tests.{ltb-true, le-ltb, leb-true, leb-false, lt-ltb, le-leb, lt-leb, eq-eqb, ne-eqb}
 use Rattle.trace.specs.{mostSamples, bitOf}
 use Rattle.rule.specs.Form.{mostFunctions, mostDepth}
-use Rattle.fixpoint.specs.Mirror.{decidedCode, mostConfigurations, Setup, firstOf, kindsOf, countOf, valuesInto, evalAt, sizeOf}
+use Rattle.codes.specs.{decidedCode}
+use Rattle.fixpoint.specs.Mirror.{mostConfigurations, Setup, firstOf, kindsOf, countOf, valuesInto, evalAt, sizeOf}
 use Rattle.fixpoint.specs.Mirror.{envAt, filledAt, putAt, filled, storedAt, visitAt, oneUnless, functionVisits, functionStores, Ready}
 use Rattle.fixpoint.specs.Mirror.{fits, passVisits, passCounts, tableFrom, passesRun, cleared}
 
@@ -33,7 +34,8 @@ module _ (S : Setup) (n g start : ℕ) (T : List ℕ) (i : ℕ) where
       → (T ≡ filled S n g start T i) × (0 ≡ oneUnless (filledAt S n g start T i))
   unfolding filled filledAt
   fill-none e q z =
-      let zero′ : evalAt S T (envAt (S .functions) n g i) mostDepth start ≡ 0 = ap (λ (v : List ℕ). evalAt S T v mostDepth start) (sym e) ∙ sym q ∙ z in
+      let zero′ : evalAt S T (envAt (S .functions) n g i) mostDepth start ≡ 0 = ap (λ (v : List ℕ). evalAt S T v mostDepth start) (sym e)
+      ∙ sym q ∙ z in
       (simp (eq-eqb _ _ zero′), simp (eq-eqb _ _ zero′))
 
   pub fill-stored : {env : List ℕ} {c : ℕ} → env ≡ envAt (S .functions) n g i → c ≡ evalAt S T env mostDepth start → (c ≡ 0 → ⊥)
@@ -89,7 +91,8 @@ module _ (S : Setup) (n g start : ℕ) (T : List ℕ) where
   unfolding functionVisits
   visits-more i = rw add-one
 
-  stores-more : (i : ℕ) → functionStores S n g start (i + 1) T ≡ functionStores S n g start i T + oneUnless (storedAt S n g start (functionVisits S n g start i T) i)
+  stores-more : (i : ℕ) → functionStores S n g start (i + 1) T ≡ functionStores S n g start i T + oneUnless
+      (storedAt S n g start (functionVisits S n g start i T) i)
   unfolding functionStores
   stores-more i = rw add-one
 
@@ -109,7 +112,8 @@ module _ {S : Setup} {n g start : ℕ} {T₀ T : List ℕ} {stored i : ℕ} (u :
   pub visited-few : stored ≤ i
   visited-few = omega (arith, u .count, stores-le S n g start T₀ i)
 
-  next : {T′ : List ℕ} {stored′ : ℕ} → T′ ≡ visitAt S n g start T i → stored′ ≡ stored + oneUnless (storedAt S n g start T i) → Visited S n g start T₀ T′ stored′ (i + 1)
+  next : {T′ : List ℕ} {stored′ : ℕ} → T′ ≡ visitAt S n g start T i → stored′ ≡ stored + oneUnless (storedAt S n g start T i)
+      → Visited S n g start T₀ T′ stored′ (i + 1)
   next v s = record {
     cells = v ∙ ap (λ (l : List ℕ). visitAt S n g start l i) (u .cells) ∙ sym (visits-more S n g start T₀ i);
     count = s ∙ simp (u .count, u .cells) (sym (stores-more S n g start T₀ i));
@@ -127,7 +131,8 @@ module _ {S : Setup} {n g start : ℕ} {T₀ T : List ℕ} {stored i : ℕ} (u :
       let k = visit-open S n g start T i (sym e ∙ z) in
       next (f ∙ sym (k .0)) (ap (λ (x : ℕ). stored + x) (s ∙ ap oneUnless (sym (k .1))))
 
-  pub visited-end : {last size : ℕ} → i ≤ last → last ≤ i → last ≡ size → (T ≡ functionVisits S n g start size T₀) × (stored ≡ functionStores S n g start size T₀)
+  pub visited-end : {last size : ℕ} → i ≤ last → last ≤ i → last ≡ size → (T ≡ functionVisits S n g start size T₀)
+      × (stored ≡ functionStores S n g start size T₀)
   visited-end {last} {size} h k e =
       let all : i ≡ size = omega (arith, h, k, e) in
       (rw all at (u .cells), rw all at (u .count))

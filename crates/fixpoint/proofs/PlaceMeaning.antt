@@ -47,7 +47,8 @@ module _ (P : Program) (t : Trace) (bytes : List ℕ) (S : Setup) (s : Sets P t 
       let here : getD (S .code) at 0 ≡ b = rw (s .code) (getD-padded mostBytes 0 bytes at ∙ byte-at bytes at b bs h) in
       simp (lt-leb mostBytes at (omega (arith, s .short)), here, e)
 
-  module _ (at : ℕ) (Γ : List Kind) (κ : Kind) (e : Expr) (rest : List ℕ) (narrow : length Γ ≤ mostParams) (m : Meets P Γ κ e) (h : drop at bytes ≡ encodeExpr e ++ rest) where
+  module _ (at : ℕ) (Γ : List Kind) (κ : Kind) (e : Expr) (rest : List ℕ) (narrow : length Γ ≤ mostParams) (m : Meets P Γ κ e)
+      (h : drop at bytes ≡ encodeExpr e ++ rest) where
     pub end-at : endAt (S .ends) at ≡ at + length (encodeExpr e)
     unfolding endAt
     end-at =

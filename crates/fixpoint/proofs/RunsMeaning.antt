@@ -19,7 +19,8 @@ use Rattle.fixpoint.proofs.SetupMeaning.{sets}
 use Rattle.fixpoint.proofs.PassMeaning.{Runs}
 
 module _ {bytes : List ℕ} {P : Program} (a : Accepted bytes P) where
-  starts-at : (g : ℕ) (f : Function) → getElem? P g ≡ some f → (rest : List ℕ) × (drop (getD (outlineOf P .starts) g 0) bytes ≡ encodeExpr (f .body) ++ rest)
+  starts-at : (g : ℕ) (f : Function) → getElem? P g ≡ some f → (rest : List ℕ)
+      × (drop (getD (outlineOf P .starts) g 0) bytes ≡ encodeExpr (f .body) ++ rest)
   unfolding outlineOf
   starts-at g f e =
       let b = body-at bytes P a g f e in

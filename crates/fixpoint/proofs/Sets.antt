@@ -13,7 +13,8 @@ use Rattle.semantics.specs.Language.{Kind, Expr, Function, Program, Trace, Valu
 use Rattle.semantics.specs.Numbering.{cells, mostCells}
 use Rattle.semantics.specs.Cells.{falseCode, trueCode, codeOf}
 use Rattle.rule.specs.Form.{mostFunctions, mostParams, mostBytes, encodeExpr, kindsByte, padded}
-use Rattle.fixpoint.specs.Mirror.{Setup, sampleCode, firstOf, kindsOf, countOf}
+use Rattle.codes.specs.{sampleCode}
+use Rattle.fixpoint.specs.Mirror.{Setup, firstOf, kindsOf, countOf}
 
 -- the first cell of function g: the cells of the functions before it
 abbrev pub firstCell : Trace → Program → ℕ → ℕ
@@ -31,7 +32,8 @@ pub record Sets (P : Program) (t : Trace) (bytes : List ℕ) (S : Setup) : Type 
   pub samples : length t ≤ mostSamples
   pub fits : cells t P ≤ mostCells
   pub code : S .code ≡ padded mostBytes 0 bytes
-  pub ends : (at : ℕ) (Γ : List Kind) (κ : Kind) (e : Expr) (rest : List ℕ) → length Γ ≤ mostParams → Meets P Γ κ e → drop at bytes ≡ encodeExpr e ++ rest
+  pub ends : (at : ℕ) (Γ : List Kind) (κ : Kind) (e : Expr) (rest : List ℕ) → length Γ ≤ mostParams → Meets P Γ κ e
+      → drop at bytes ≡ encodeExpr e ++ rest
       → getD (S .ends) at 0 ≡ at + length (encodeExpr e)
   pub first : (g : ℕ) (f : Function) → getElem? P g ≡ some f → firstOf (S .functions) g ≡ firstCell t P g
   pub kinds : (g : ℕ) (f : Function) → getElem? P g ≡ some f → kindsOf (S .functions) g ≡ kindsByte (f .params) (f .result)

@@ -22,7 +22,8 @@ use Rattle.rule.specs.declared.Node.{Node}
 use Rattle.rule.specs.Form.{mostFunctions, mostParams, mostBytes}
 use Rattle.rule.specs.Reading.{nodeOf}
 use Rattle.rule.specs.Walk.{atMostFour}
-use Rattle.fixpoint.specs.Mirror.{mostValues, mostConfigurations, bytesIn, endsIn, traceIn, radixOf, sizeFrom, valueCode, valuesInto}
+use Rattle.codes.specs.{radixOf, valueCode}
+use Rattle.fixpoint.specs.Mirror.{mostValues, mostConfigurations, bytesIn, endsIn, traceIn, sizeFrom, valuesInto}
 use Rattle.fixpoint.specs.Mirror.{endAt, endsAfter, operandsOf, endBy, endsDown, withEnds, totalBefore, functionsUpto, functionsOf, totalOf}
 use Rattle.fixpoint.proofs.WordsPut.{bytes-kept, ends-set, trace-kept, words-split}
 
@@ -49,7 +50,8 @@ module _ (code params z : List ℕ) (len : ℕ) where
   unfolding endsDown
   ends-start = let e : len - len ≡ 0 = omega arith in rw e
 
-  ends-more : (at : ℕ) {ends : List ℕ} {end : ℕ} → ends ≡ endsDown code params (len - at) at z → 0 < at → at ≤ len → end ≡ endBy code params ends (at - 1)
+  ends-more : (at : ℕ) {ends : List ℕ} {end : ℕ} → ends ≡ endsDown code params (len - at) at z → 0 < at → at ≤ len
+      → end ≡ endBy code params ends (at - 1)
       → set ends (at - 1) end ≡ endsDown code params (len - (at - 1)) (at - 1) z
   unfolding endsDown
   ends-more zero e h l n = absurd (omega arith)

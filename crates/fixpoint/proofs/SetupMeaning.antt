@@ -14,7 +14,8 @@ use Rattle.semantics.specs.Cells.{falseCode, trueCode}
 use Rattle.rule.specs.Form.{mostBytes, padded, Accepted}
 use Rattle.rule.specs.Outline.{outlineOf}
 use Rattle.rule.proofs.Padded.{getD-padded}
-use Rattle.fixpoint.specs.Mirror.{setup, mostTraceBytes, sampleCode, endsDown, functionsUpto}
+use Rattle.codes.specs.{sampleCode}
+use Rattle.fixpoint.specs.Mirror.{setup, mostTraceBytes, endsDown, functionsUpto}
 use Rattle.fixpoint.proofs.Sets.{Sets}
 use Rattle.fixpoint.proofs.EndsMeaning.{ends-mean}
 use Rattle.fixpoint.proofs.FunctionsMeaning.{first-means, kinds-mean, count-means}
@@ -25,7 +26,8 @@ unfolding sampleAt
 trace-means bytes n i h =
     ap (λ (b : Bool). cond b trueCode falseCode) (ap (bitOf (i % 8)) (getD-padded mostTraceBytes 0 bytes (i / 8)) ∙ sym (samples-at bytes n i h))
 
-module _ {bytes : List ℕ} {P : Program} (a : Accepted bytes P) (trace : List ℕ) (n : ℕ) (few : n ≤ mostSamples) (fits : cells (samples trace n) P ≤ mostCells) where
+module _ {bytes : List ℕ} {P : Program} (a : Accepted bytes P) (trace : List ℕ) (n : ℕ) (few : n ≤ mostSamples)
+    (fits : cells (samples trace n) P ≤ mostCells) where
   pub sets : Sets P (samples trace n) bytes
       (setup (padded mostBytes 0 bytes) (endsDown (padded mostBytes 0 bytes) (outlineOf P .params) (length bytes) 0 (replicate mostBytes 0))
       (functionsUpto (outlineOf P .kinds) (outlineOf P .params) n (length P)) (padded mostTraceBytes 0 trace))

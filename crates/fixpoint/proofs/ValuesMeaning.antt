@@ -22,7 +22,8 @@ use Rattle.rule.specs.Reading.{kindAt, kindsFrom}
 use Rattle.rule.proofs.KindBytes.{kinds-back}
 use Rattle.rule.proofs.WalkMeaning.{kind-bit}
 use Rattle.rule.proofs.Scanning.{map-snoc}
-use Rattle.fixpoint.specs.Mirror.{valueCode, valuesInto}
+use Rattle.codes.specs.{valueCode}
+use Rattle.fixpoint.specs.Mirror.{valuesInto}
 use Rattle.fixpoint.proofs.Sets.{EnvOf}
 use Rattle.fixpoint.proofs.FunctionsMeaning.{radix-by-bit}
 
@@ -38,7 +39,8 @@ value-of t truth (suc (suc d)) h = absurd (omega arith)
 value-of t list d h = omega arith
 
 -- the last digit of a configuration, as the code takes it
-value-means : (t : Trace) (k i x : ℕ) → valueCode (bitOf i k) (x % kindSize t (kindAt k i)) ≡ valueNumber (valueAt (kindAt k i) (x % kindSize t (kindAt k i)))
+value-means : (t : Trace) (k i x : ℕ)
+    → valueCode (bitOf i k) (x % kindSize t (kindAt k i)) ≡ valueNumber (valueAt (kindAt k i) (x % kindSize t (kindAt k i)))
 value-means t k i x =
     let d = x % kindSize t (kindAt k i) in
     ap (λ (b : Bool). valueCode b d) (sym (kind-bit k i)) ∙ value-of t (kindAt k i) d (mod-lt x (kind-pos t (kindAt k i)))
@@ -74,7 +76,8 @@ module _ (t : Trace) (κ : Kind) where
       let last : y % K ≡ x % K = ap (λ (m : ℕ). m % K) split ∙ digits-mod (x / K % S) low in
       ap (λ (d : ℕ). valueAt κ₀ d ∷ valuesAt t all y) top
       ∙ ap (λ (vs : List Value). valueAt κ₀ (x / K / S) ∷ vs)
-      (values-snoc κs y (mod-lt x (size-pos t all)) ∙ ap (λ (d : ℕ). valuesAt t κs d ++ (valueAt κ (y % K) ∷ [])) high ∙ ap (λ (d : ℕ). valuesAt t κs (x / K % S) ++ (valueAt κ d ∷ [])) last)
+      (values-snoc κs y (mod-lt x (size-pos t all)) ∙ ap (λ (d : ℕ). valuesAt t κs d ++ (valueAt κ (y % K) ∷ [])) high
+      ∙ ap (λ (d : ℕ). valuesAt t κs (x / K % S) ++ (valueAt κ d ∷ [])) last)
 
 -- what is written at a place, and what stands after it
 drop-written : (l : List ℕ) (i v : ℕ) → i < length l → drop i (set l i v) ≡ v ∷ drop (suc i) l
@@ -86,7 +89,8 @@ module _ (t : Trace) (k : ℕ) where
   -- a configuration of the first c + 1 parameters
   record Apart (c x : ℕ) : Type 0 where
     first : x / kindSize t (kindAt k c) < size t (kindsFrom k 0 c)
-    both : valuesAt t (kindsFrom k 0 (suc c)) x ≡ valuesAt t (kindsFrom k 0 c) (x / kindSize t (kindAt k c)) ++ (valueAt (kindAt k c) (x % kindSize t (kindAt k c)) ∷ [])
+    both : valuesAt t (kindsFrom k 0 (suc c)) x ≡ valuesAt t (kindsFrom k 0 c) (x / kindSize t (kindAt k c))
+        ++ (valueAt (kindAt k c) (x % kindSize t (kindAt k c)) ∷ [])
 
   apart : (c x : ℕ) → x < size t (kindsFrom k 0 (suc c)) → Apart c x
   apart c x h =

@@ -1,13 +1,13 @@
 -- What stands where in the words of an evaluation, each by its place in the whole:
 --   byte-at      a byte of the program
 --   end-at       the end of an expression
---   trace-at     a byte of the trace
---   trace-past   past the words there is none
+--   trace-part   the trace, as the part from where it begins to the end
 use mathlib.Core.Path.{_≡_, ap, _∙_}
 use mathlib.Core.List.{List}
-use Prim.Native.Nat.{ℕ, _+_, _%_, _<_, _≤_}
-use lib.ListN.{length, getD, take, drop, List·getD-map, List·getD-eq-default}
-use lib.Seq.{getD-take, getD-drop}
+use Prim.Native.Nat.{ℕ, _+_, _-_, _%_, _<_}
+use native.Mathlib.Omega.{arith}
+use lib.ListN.{length, getD, take, drop, length-drop, List·getD-map}
+use lib.Seq.{getD-take, getD-drop, take-all}
 use Rattle.rule.specs.Form.{mostBytes}
 use Rattle.fixpoint.specs.Mirror.{traceFrom, bytesIn, endsIn, traceIn}
 
@@ -22,9 +22,6 @@ module _ (words : List ℕ) where
   unfolding endsIn
   end-at at h = getD-take mostBytes (drop mostBytes words) at 0 h ∙ getD-drop mostBytes words at 0
 
-  pub trace-at : (i : ℕ) → getD (traceIn words) i 0 ≡ getD words (traceFrom + i) 0
+  pub trace-part : take (length words - traceFrom) (drop traceFrom words) ≡ traceIn words
   unfolding traceIn
-  trace-at i = getD-drop traceFrom words i 0
-
-  pub trace-past : (i : ℕ) → length words ≤ traceFrom + i → getD (traceIn words) i 0 ≡ 0
-  trace-past i h = trace-at i ∙ List·getD-eq-default words 0 h
+  trace-part = take-all (length words - traceFrom) (drop traceFrom words) (omega (arith, length-drop traceFrom words))

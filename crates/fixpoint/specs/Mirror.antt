@@ -1,58 +1,21 @@
 -- A mirror of the code: outcomes as their numbers, expressions by their places in the program, functions by an array
 -- of first cells, kinds bytes and counts. No reader need believe it: proofs/ shows that it comes to what the rules say.
-use Prim.Native.Nat.{ℕ, zero, suc, _+_, _-_, _*_, _/_, _%_, _<_, _≤_, min}
-use mathlib.Core.Bool.{Bool, true, _&&_, cond}
+use Prim.Native.Nat.{ℕ, zero, suc, _+_, _*_, _/_, _%_, _<_, _≤_, min}
+use mathlib.Core.Bool.{Bool, _&&_, cond}
 use mathlib.Core.List.{List, [], _∷_, _++_, map}
 use lib.Dec.{ltb, leb, eqb}
 use lib.ListN.{length, getD, set, take, drop, replicate}
 use Rattle.trace.specs.{mostSamples, bitOf}
 use Rattle.semantics.specs.Numbering.{mostCells}
-use Rattle.semantics.specs.Cells.{undecidedCode, falseCode, trueCode, headCode, tailCode, suffixCode}
+use Rattle.semantics.specs.Cells.{undecidedCode, falseCode, trueCode, suffixCode}
+use Rattle.codes.specs.{headOf, tailOf, nullOf, decidedCode, digitCode, radixOf, bound, nextIndex, valueCode, endsCall}
 use Rattle.rule.specs.declared.Node.{Node}
 use Rattle.rule.specs.declared.Node.the-variants as node
 use Rattle.rule.specs.Form.{mostFunctions, mostBytes, mostDepth, padded}
 use Rattle.rule.specs.Reading.{nodeOf}
 use Rattle.rule.specs.Walk.{atMostFour}
 
--- ---- Numbers of outcomes
-
-abbrev pub sampleCode : List ℕ → ℕ → ℕ
-sampleCode trace i = cond (bitOf (i % 8) (getD trace (i / 8) 0)) trueCode falseCode
-
-abbrev pub headOf : List ℕ → ℕ → ℕ → ℕ
-headOf trace n c =
-    let length = c - suffixCode in
-    cond (ltb c suffixCode) c
-    (cond (eqb length 0) headCode (cond (ltb n length) undecidedCode (sampleCode trace (n - length))))
-
-abbrev pub tailOf : ℕ → ℕ
-tailOf c = cond (ltb c suffixCode) c (cond (eqb c suffixCode) tailCode (c - 1))
-
-abbrev pub nullOf : ℕ → ℕ
-nullOf c = cond (ltb c suffixCode) c (cond (eqb c suffixCode) trueCode falseCode)
-
--- what a cell of a function holds, by its result kind; undecided where it holds no outcome of that kind
-abbrev pub decidedCode : Bool → ℕ → ℕ → ℕ
-decidedCode list n cell =
-    cond list
-    (cond (ltb cell headCode) undecidedCode (cond (ltb cell suffixCode) cell (cond (ltb n (cell - suffixCode)) undecidedCode cell)))
-    (cond (ltb tailCode cell) undecidedCode cell)
-
 -- ---- Configurations
-
-abbrev pub digitCode : ℕ → ℕ
-digitCode c = cond (ltb c suffixCode) (cond (eqb c trueCode) 1 0) (c - suffixCode)
-
-abbrev pub radixOf : Bool → ℕ → ℕ
-radixOf list n = cond list (n + 1) 2
-
--- numbers of configurations and of first cells are below this one; it stands for all above
-abbrev pub bound : ℕ
-bound = 4294967296
-
--- digits and radices are below this one
-abbrev pub digitBound : ℕ
-digitBound = 65536
 
 -- the most values of a kind: a list of each length
 abbrev pub mostValues : ℕ
@@ -62,18 +25,10 @@ mostValues = suc mostSamples
 abbrev pub mostConfigurations : ℕ
 mostConfigurations = 281474976710656
 
-abbrev pub nextIndex : ℕ → ℕ → ℕ → ℕ
-nextIndex index radix digit =
-    cond (ltb index bound) (cond (ltb radix digitBound) (cond (ltb digit digitBound) (index * radix + digit) bound) bound) bound
-
 -- how many configurations so many parameters have, from parameter i on
 unfoldable pub sizeFrom : ℕ → ℕ → ℕ → ℕ → ℕ
 sizeFrom kinds n i zero = 1
 sizeFrom kinds n i (suc left) = radixOf (bitOf i kinds) n * sizeFrom kinds n (i + 1) left
-
--- the number of a value of a kind, by its digit
-abbrev pub valueCode : Bool → ℕ → ℕ
-valueCode list digit = cond list (digit + suffixCode) (digit + falseCode)
 
 -- the numbers of the values of parameters 0 to i - 1 in configuration `index`, put into env
 unfoldable pub valuesInto : ℕ → ℕ → ℕ → ℕ → List ℕ → List ℕ
@@ -140,10 +95,6 @@ lookupAt functions table n g index =
     cond (ltb (firstOf functions g) bound)
     (cond (ltb index bound) (decidedCode (bitOf 4 (kindsOf functions g)) n (getD table (firstOf functions g + index) 0)) undecidedCode)
     undecidedCode
-
--- an argument that ends its call: undecided, or an error
-abbrev pub endsCall : ℕ → Bool
-endsCall c = cond (eqb c undecidedCode) true (cond (eqb c headCode) true (eqb c tailCode))
 
 -- so many arguments, from argument i on, and then the look-up
 unfoldable pub argsAt : Setup → List ℕ → ℕ → (ℕ → ℕ) → ℕ → ℕ → ℕ → ℕ → ℕ → ℕ

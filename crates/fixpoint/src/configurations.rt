@@ -1,10 +1,17 @@
 // The configurations of a function: how many there are, and the parameter values of each.
-use crate::codes;
 ghost use mathlib.Core.Path.{_≡_};
 ghost use Prim.Native.Nat.{_≤_};
 ghost use Rattle.trace.specs.{mostSamples};
 ghost use Rattle.rule.specs.Form.{mostParams};
+ghost use Rattle.rule.specs.Walk.{atMostFour};
 ghost use Rattle.fixpoint.specs.Mirror.{mostConfigurations, sizeFrom, valuesInto};
+
+// A count of parameters, at most four.
+pub fn at_most_four(count: u64) -> u64
+    ensures { λ r. ⌜ r ≡ atMostFour count ⌝ }
+{
+    if count < 5 { count } else { 4 }
+}
 
 // How many configurations a function has.
 pub fn size(kinds: u64, count: u64, n: u16) -> u64

@@ -1,6 +1,6 @@
 // The outcome of an expression with calls looked up in the table. Program, expression ends and trace
 // stand in one lent array, functions and parameter values in others; an outcome is its number.
-use crate::codes;
+use crate::configurations;
 use crate::setup::ENDS;
 use crate::setup::WORDS;
 use crate::words;
@@ -64,7 +64,7 @@ fn node(
         Node::True => codes::TRUE,
         Node::Empty => codes::SUFFIX,
         Node::Param(i) => param(env, i),
-        Node::Head => codes::head(
+        Node::Head => words::head(
             words,
             env[4],
             operand(words, functions, table, env, left, next),
@@ -128,7 +128,7 @@ fn simple(
     let left = depth - 1;
     let next = at + 1;
     if code == 32 {
-        return codes::head(
+        return words::head(
             words,
             env[4],
             operand(words, functions, table, env, left, next),
@@ -212,7 +212,7 @@ fn call(
     }
     let g = callee as usize;
     let kinds = functions[32 + g];
-    let count = codes::at_most_four(functions[64 + g]);
+    let count = configurations::at_most_four(functions[64 + g]);
     let n = env[4];
     let mut index: u64 = 0;
     let mut place = at;

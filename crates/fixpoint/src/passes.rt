@@ -1,5 +1,4 @@
 // Passes over the table.
-use crate::codes;
 use crate::configurations;
 use crate::evaluator;
 use crate::setup::WORDS;
@@ -76,7 +75,7 @@ fn lies_within(functions: &[u64; 96], n: u16, g: usize, len: usize) -> bool
     if cells < first {
         return false;
     }
-    let count = codes::at_most_four(functions[64 + g]);
+    let count = configurations::at_most_four(functions[64 + g]);
     configurations::size(functions[32 + g], count, n) <= cells - first
 }
 
@@ -95,7 +94,7 @@ fn pass_function(
     ensures stored { λ r. ⌜ (r ≡ functionStores (setupIn (now (words .entry)) (now (functions .entry))) n g start (sizeOf (now (functions .entry)) n g) (now (table .entry))) × (r ≤ mostConfigurations) ⌝ }
 {
     let kinds = functions[32 + g];
-    let count = codes::at_most_four(functions[64 + g]);
+    let count = configurations::at_most_four(functions[64 + g]);
     let list = trace::bit(kinds, 4);
     let first = functions[g] as usize;
     let last = configurations::size(kinds, count, n) as usize;
@@ -125,7 +124,7 @@ fn fill(
     ensures stored { λ r. ⌜ r ≡ oneUnless (filledAt (setupIn (now (words .entry)) (now (functions .entry))) n g start (now (table .entry)) index) ⌝ }
 {
     let kinds = functions[32 + g];
-    let count = codes::at_most_four(functions[64 + g]);
+    let count = configurations::at_most_four(functions[64 + g]);
     let cell = (functions[g] as usize) + index;
     let mut env = [0, 0, 0, 0, n];
     configurations::values(kinds, count, n, index as u64, &mut env);

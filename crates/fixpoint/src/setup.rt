@@ -1,6 +1,5 @@
 // What is worked out once for an evaluation: program, expression ends and trace in one array of words, and
 // where each function's cells begin.
-use crate::codes;
 use crate::configurations;
 use crate::words;
 use rule::Node;
@@ -107,7 +106,7 @@ fn arguments(params: &[u8; 32], g: u8) -> u64
     if 32 <= g {
         return 0;
     }
-    codes::at_most_four(wide(params[g as usize]))
+    configurations::at_most_four(wide(params[g as usize]))
 }
 
 // The functions of a program: first cells from 0 on, kinds bytes from 32 on, counts from 64 on; and the
@@ -134,7 +133,7 @@ pub fn cells_of(count: u8, params: &[u8; 32], kinds: &[u8; 32], n: u16) -> Cells
         functions[g] = total;
         functions[32 + g] = own_kinds;
         functions[64 + g] = own_params;
-        total += configurations::size(own_kinds, codes::at_most_four(own_params), samples);
+        total += configurations::size(own_kinds, configurations::at_most_four(own_params), samples);
         g += 1;
     }
     Cells { functions, total }

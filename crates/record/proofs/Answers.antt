@@ -54,9 +54,9 @@ abbrev verdictCheck : Evaluated → Check
 verdictCheck (evaluated.Verdict v) = Passed
 verdictCheck (evaluated.Refused f) = Refused f
 
-abbrev verdictIn : Verdict → Evaluated → Verdict
-verdictIn w (evaluated.Verdict v) = v
-verdictIn w (evaluated.Refused f) = w
+abbrev verdictOr : Verdict → Evaluated → Verdict
+verdictOr w (evaluated.Verdict v) = v
+verdictOr w (evaluated.Refused f) = w
 
 verdict-check : (c : Check) (v : Verdict) → verdictCheck (answerBy c v) ≡ c
 verdict-check Passed v = refl
@@ -72,7 +72,7 @@ module _ (program trace : List ℕ) (n lent : ℕ) {r : Evaluated} (e : r ≡ ev
   evaluation-passed {w} q =
       let passed : evaluateCheck program trace n lent ≡ Passed = sym (verdict-check _ (workedOut program trace n)) ∙ ap verdictCheck (sym e ∙ q) in
       let told : answerBy Passed (workedOut program trace n) ≡ evaluated.Verdict w = rw passed at (sym e ∙ q) in
-      (passed, ap (verdictIn w) told)
+      (passed, ap (verdictOr w) told)
 
 -- ---- Reading
 

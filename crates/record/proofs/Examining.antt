@@ -37,7 +37,7 @@ use Rattle.record.specs.declared.Examined.{Examined}
 use Rattle.record.specs.Form.{Contents, samplesOf}
 use Rattle.record.specs.Reading.{partOf, contentsIn, trailerCheck, partsIn, readCheck, readBy}
 use Rattle.record.specs.Reading.{reading as readingOf}
-use Rattle.record.specs.Checking.{recordCheck, agrees, compared, checkedBy, checking, tableChecked, examining, CheckDemand3, judgedBy, checkedAnswer, programHeld, checkNumbers}
+use Rattle.record.specs.Checking.{recordCheck, agrees, compared, checkedBy, checking, tableChecked, examining, CheckDemand3, comparedIn, checkedAnswer, programHeld, checkNumbers}
 use Rattle.record.specs.Steps.{located, bothRefused, refusedBy}
 use Rattle.record.proofs.Answers.{evaluation-refused, evaluation-passed, located-refusal, located-passed, parts-are}
 use Rattle.refusal.proofs.Checks.{then-passed}
@@ -137,7 +137,7 @@ module _ (bytes T : List ℕ) (passed : trailerCheck bytes ≡ Passed) {r : Eval
 
 -- what checking tells of the verdict that evaluating the record's contents decides
 pub checking-decides : (bytes T T′ : List ℕ) {r : Checked} → r ≡ checking bytes (length T) → T′ ≡ tableChecked bytes T
-    → CheckDemand3 bytes (length T) (λ v. r ≡ judgedBy bytes v) T′
+    → CheckDemand3 bytes (length T) (λ v. r ≡ comparedIn bytes v) T′
 checking-decides bytes T T′ told left P passed a room =
     let c = contentsIn bytes in
     let all = tableEvaluated (c .program) (c .trace) (c .n) T in
@@ -166,7 +166,7 @@ checking-numbers bytes lent = go (recordCheck bytes lent) (agrees (contentsIn by
 -- the answer, the table, and demand 3 of the verdict worked out
 abbrev Promised : List ℕ → List ℕ → List ℕ → Examined → Type 0
 Promised bytes T T′ r =
-    (r ≡ examining bytes (length T)) × ((T′ ≡ tableChecked bytes T) × CheckDemand3 bytes (length T) (λ v. r .checked ≡ judgedBy bytes v) T′)
+    (r ≡ examining bytes (length T)) × ((T′ ≡ tableChecked bytes T) × CheckDemand3 bytes (length T) (λ v. r .checked ≡ comparedIn bytes v) T′)
 
 promised : (bytes T T′ : List ℕ) (r : Examined) → r ≡ examining bytes (length T) → T′ ≡ tableChecked bytes T → Promised bytes T T′ r
 unfolding examining

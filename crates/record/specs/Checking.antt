@@ -80,8 +80,8 @@ CheckDemand3 bytes lent Told table =
     → (v : Verdict) × Told v × Decides P (samplesOf (contentsIn bytes)) v table
 
 -- what is told of a verdict: whether the record has it, over verdict and pass count together
-abbrev pub judgedBy : List ℕ → Verdict → Checked
-judgedBy bytes v = compared (agrees (contentsIn bytes .verdict) (contentsIn bytes .passes) v) v
+abbrev pub comparedIn : List ℕ → Verdict → Checked
+comparedIn bytes v = compared (agrees (contentsIn bytes .verdict) (contentsIn bytes .passes) v) v
 
 -- reading and checking in one
 unfoldable pub examining : List ℕ → ℕ → Examined

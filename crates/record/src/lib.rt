@@ -17,7 +17,7 @@ ghost use Rattle.rule.specs.Reading.{programCheck};
 ghost use Rattle.record.specs.declared.Written.the-variants as Written;
 ghost use Rattle.record.specs.Reading.{partOf, partsIn, readCheck, reading, partsValues, readAnswer};
 ghost use Rattle.record.specs.Recording.{workedOut, recordOf, writeCheck, writing, writtenAnswer, outputWritten, tableWritten, RecordDemand3};
-ghost use Rattle.record.specs.Checking.{checking, checkedAnswer, checkNumbers, tableChecked, CheckDemand3, judgedBy, examining, agrees, compared};
+ghost use Rattle.record.specs.Checking.{checking, checkedAnswer, checkNumbers, tableChecked, CheckDemand3, comparedIn, examining, agrees, compared};
 ghost use Rattle.record.specs.Steps.{bothRefused, refusedBy};
 
 // The format and the mark of a record.
@@ -151,7 +151,7 @@ pub fn check(bytes: &[u8], table: &mut [u16]) -> Checked
     ensures answer { λ r. ⌜ r ≡ checking (now (bytes .entry)) (length (now (table .entry))) ⌝ }
     ensures numbers { λ r. ⌜ checkedAnswer r ≡ checkNumbers (now (bytes .entry)) (length (now (table .entry))) ⌝ }
     ensures cells { λ _. ⌜ now (table .exit) ≡ tableChecked (now (bytes .entry)) (now (table .entry)) ⌝ }
-    ensures decides { λ r. ⌜ CheckDemand3 (now (bytes .entry)) (length (now (table .entry))) (λ v. r ≡ judgedBy (now (bytes .entry)) v) (now (table .exit)) ⌝ }
+    ensures decides { λ r. ⌜ CheckDemand3 (now (bytes .entry)) (length (now (table .entry))) (λ v. r ≡ comparedIn (now (bytes .entry)) v) (now (table .exit)) ⌝ }
 {
     let examined = examine(bytes, table);
     examined.checked
@@ -161,7 +161,7 @@ pub fn check(bytes: &[u8], table: &mut [u16]) -> Checked
 pub fn examine(bytes: &[u8], table: &mut [u16]) -> Examined
     ensures answer { λ r. ⌜ r ≡ examining (now (bytes .entry)) (length (now (table .entry))) ⌝ }
     ensures cells { λ _. ⌜ now (table .exit) ≡ tableChecked (now (bytes .entry)) (now (table .entry)) ⌝ }
-    ensures decides { λ r. ⌜ CheckDemand3 (now (bytes .entry)) (length (now (table .entry))) (λ v. r .checked ≡ judgedBy (now (bytes .entry)) v) (now (table .exit)) ⌝ }
+    ensures decides { λ r. ⌜ CheckDemand3 (now (bytes .entry)) (length (now (table .entry))) (λ v. r .checked ≡ comparedIn (now (bytes .entry)) v) (now (table .exit)) ⌝ }
 {
     match trailer::parts(bytes) {
         Reading::Refused(refusal) => refused(refusal),

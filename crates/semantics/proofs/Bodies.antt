@@ -179,7 +179,8 @@ module _ (P : Program) (t : Trace) (calls : Calls) (Γ : List Kind) (env : List 
   kinded-rest e xs v ih κs r m hv (onAll vs q h) = let s : r ≡ values (v ∷ vs) = cc in rw (s, m .2) (hv, ih (m .1) (values vs) (m .4) q)
   kinded-rest e xs v ih κs r m hv (offAll x q h) = rw h tt
 
-  kinded-arg : (e : Expr) (xs : Args) → Kinded P t calls Γ env e → KindedAll P t calls Γ env xs → (κs : List Kind) (r : Arguments) → MeetAll P Γ κs (arg e xs)
+  kinded-arg : (e : Expr) (xs : Args) → Kinded P t calls Γ env e → KindedAll P t calls Γ env xs → (κs : List Kind) (r : Arguments)
+      → MeetAll P Γ κs (arg e xs)
       → Went failed (bodyOutcome t calls env e) (λ v. withValues failed (argsOutcome t calls env xs) (λ vs. some (values (v ∷ vs)))) r
       → OfKinds t κs r
   kinded-arg e xs he ih κs r m (on v q h) =

@@ -9,7 +9,9 @@ use Rattle.evaluate.proofs.evaluate.Tie as tie
 
 -- a check that passes has settled the evaluation
 settled : (c : tie.After-enum-told) → let start = c .before .before .before .before .before .before .before .before in
-    Settled (start .args .program .now) (start .args .trace .now) (start .args .n) (c .before .before .before .before .prepare .result .outline) (c .before .before .before .before .prepare .result .cells) (length (start .args .table .now))
+    Settled (start .args .program .now) (start .args .trace .now) (start .args .n)
+    (c .before .before .before .before .prepare .result .outline) (c .before .before .before .before .prepare .result .cells)
+    (length (start .args .table .now))
 settled c = c .before .before .before .before .prepare .ensures .1 (c .enum-told .given .1)
 
 prepare-requires : tie.Need-prepare-requires
@@ -30,7 +32,8 @@ decide-requires c κs = settled (c .before)
 returns : tie.Need-returns
 returns c =
     let a = c .before .before .before .before .before .before .before .before .before .args in
-    evaluate-refused (a .program .now) (a .trace .now) (a .n) (a .table .now) (c .before .before .before .before .before .prepare .ensures .0) (c .before .check .given .1)
+    evaluate-refused (a .program .now) (a .trace .now) (a .n) (a .table .now)
+    (c .before .before .before .before .before .prepare .ensures .0) (c .before .check .given .1)
 
 same-length : tie.Need-same-length
 same-length c = search needs

@@ -5,7 +5,7 @@ use Rattle.refusal.specs.{Answer}
 use Rattle.record.specs.declared.Checked.{Checked}
 use Rattle.record.specs.Checking.{checkedAnswer}
 use Rattle.gateway.specs.{firstAlone}
-use Rattle.gateway.proofs.Answers.{told-as, judged-told}
+use Rattle.gateway.proofs.Answers.{told-as, compared-told}
 use borrow.Author.Needs.{needs}
 use Rattle.gateway.proofs.sik_check_record.Statement.{statement}
 use Rattle.gateway.proofs.sik_check_record.Tie as tie
@@ -35,7 +35,7 @@ returns c =
           all .1,
           λ P s a t.
               let d = told .1 .1 .1 P s a t in
-              let j = judged-told (c .before .before .before .before .before .before .before .before .args .bytes .now) (d .0) old in
+              let j = compared-told (c .before .before .before .before .before .before .before .before .args .bytes .now) (d .0) old in
               let judged = told-as numbers old (w .0) (w .1) (d .1) in
               (d .0, (judged .0 ∙ j .0, judged .1 ∙ j .1), d .2),
         ),

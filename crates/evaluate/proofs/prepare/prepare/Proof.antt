@@ -14,7 +14,8 @@ use Rattle.evaluate.proofs.prepare.prepare.Tie as tie
 -- a program that passes the check is accepted
 accepted : (c : tie.After-enum-told) → (P : Program) × Accepted (c .before .before .before .before .before .before .args .program .now) P
 accepted c =
-    passed-accepted _ (λ i. omega (arith, c .before .before .before .before .before .shared-slice-known .given i)) (sym (c .before .before .before .check-program .ensures .0) ∙ c .enum-told .given .1)
+    passed-accepted _ (λ i. omega (arith, c .before .before .before .before .before .shared-slice-known .given i))
+    (sym (c .before .before .before .check-program .ensures .0) ∙ c .enum-told .given .1)
 
 check-program-requires : tie.Need-check-program-requires
 check-program-requires c κs = search needs
@@ -43,7 +44,11 @@ enum-told-2 c = search needs
 cast-cells-of : tie.Need-cast-cells-of
 cast-cells-of c =
     let a = c .before .before .before .before .before .before .before .before .before .before .before .before .before .args in
-    omega (arith, trace-passed (a .n) (length (a .trace .now)) (c .before .before .before .before .before .before .trace-check .ensures) (c .before .before .before .before .enum-told2 .given .1) .0)
+    omega (
+      arith,
+      trace-passed (a .n) (length (a .trace .now)) (c .before .before .before .before .before .before .trace-check .ensures)
+          (c .before .before .before .before .enum-told2 .given .1) .0,
+    )
 
 cells-of-requires : tie.Need-cells-of-requires
 cells-of-requires c κs = search needs
@@ -54,13 +59,15 @@ table-check-requires c κs = search needs
 returns : tie.Need-returns
 returns c =
     let a = c .before .before .before .before .before .before .before .before .args in
-    let all = program-refused (a .program .now) (a .trace .now) (a .n) (a .lent) (c .before .before .before .before .before .check-program .ensures .0) (c .before .before .check .given .1) in
+    let all = program-refused (a .program .now) (a .trace .now) (a .n) (a .lent)
+    (c .before .before .before .before .before .check-program .ensures .0) (c .before .before .check .given .1) in
     (c .refused .ensures ∙ sym all, λ e. absurd (refused (sym (c .refused .ensures) ∙ e)))
 
 returns-2 : tie.Need-returns-2
 returns-2 c =
     let a = c .before .before .before .before .before .before .before .before .before .before .before .args in
-    let all = trace-refused (a .program .now) (a .trace .now) (a .n) (a .lent) (accepted (c .before .before .before .before .before) .1) (c .before .before .before .before .trace-check .ensures) (c .before .before .refusal .given .1) in
+    let all = trace-refused (a .program .now) (a .trace .now) (a .n) (a .lent) (accepted (c .before .before .before .before .before) .1)
+    (c .before .before .before .before .trace-check .ensures) (c .before .before .refusal .given .1) in
     (c .refused2 .ensures ∙ sym all, λ e. absurd (refused (sym (c .refused2 .ensures) ∙ e)))
 
 returns-3 : tie.Need-returns-3

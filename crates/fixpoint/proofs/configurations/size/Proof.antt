@@ -24,7 +24,8 @@ radix-requires : tie.Need-radix-requires Inv-loop μ-loop
 radix-requires c κs = search needs
 
 loop-again : tie.Need-loop-again Inv-loop μ-loop
-loop-again c = size-more _ _ _ _ (c .before .before .before .loop .inv) (c .before .before .loop-test .taken) (c .before .before .before .before .pre .1) (c .before .bit .ensures) (c .radix .ensures)
+loop-again c = size-more _ _ _ _ (c .before .before .before .loop .inv) (c .before .before .loop-test .taken)
+    (c .before .before .before .before .pre .1) (c .before .bit .ensures) (c .radix .ensures)
 
 mul-product : tie.Need-mul-product Inv-loop μ-loop
 mul-product c = omega (arith, size-fits _ _ _ _ (loop-again c) (c .before .before .before .before .pre .0))

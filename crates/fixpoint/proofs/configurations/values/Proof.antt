@@ -4,7 +4,8 @@ use mathlib.Core.Logic.{⊎-elim}
 use Prim.Native.Nat.{_%_, _<_, _≤_}
 use native.Mathlib.Omega.{arith}
 use borrow.Author.Needs.{needs}
-use Rattle.fixpoint.specs.Mirror.{mostValues, valueCode, valuesInto}
+use Rattle.codes.specs.{valueCode}
+use Rattle.fixpoint.specs.Mirror.{mostValues, valuesInto}
 use Rattle.fixpoint.proofs.SetupLoops.{radix-pos, digit-bound, values-more, values-whole}
 use Rattle.fixpoint.proofs.configurations.values.Statement.{statement}
 use Rattle.fixpoint.proofs.configurations.values.Tie as tie
@@ -54,12 +55,16 @@ div-rest c = rem-digit (c .before)
 loop-less : tie.Need-loop-less Inv-loop μ-loop
 loop-less c = omega arith
 
-value : (c : tie.Joined1 Inv-loop μ-loop) → c .if1 .env ≡ valueCode (c .before .before .bit .result) (c .before .before .before .before .loop .rest % c .before .radix .result)
+value : (c : tie.Joined1 Inv-loop μ-loop)
+    → c .if1 .env ≡ valueCode (c .before .before .bit .result) (c .before .before .before .before .loop .rest % c .before .radix .result)
 value c = ⊎-elim (λ w. w .1 ∙ simp (w .0 .taken)) (λ w. w .1 ∙ simp (w .0 .left)) (c .if1 .came)
 
 loop-again : tie.Need-loop-again Inv-loop μ-loop
-loop-again c =
-    (omega arith, values-more _ _ _ _ _ (c .before .before .before .before .loop .inv .1) (c .before .before .before .loop-test .taken) (c .before .before .bit .ensures) (c .before .radix .ensures) (value c))
+loop-again c = (
+  omega arith,
+  values-more _ _ _ _ _ (c .before .before .before .before .loop .inv .1) (c .before .before .before .loop-test .taken)
+      (c .before .before .bit .ensures) (c .before .radix .ensures) (value c),
+)
 
 returns : tie.Need-returns Inv-loop μ-loop
 returns c = values-whole _ _ _ _ _ (c .before .loop .inv .1) (c .loop-test .left)

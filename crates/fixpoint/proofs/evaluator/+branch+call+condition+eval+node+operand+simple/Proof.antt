@@ -23,13 +23,13 @@ use Rattle.fixpoint.proofs.evaluator.+branch+call+condition+eval+node+o
 use Rattle.fixpoint.proofs.evaluator.simple.Reads as simple
 use Rattle.fixpoint.proofs.evaluator.simple.Kinds as simple-kinds
 use Rattle.fixpoint.proofs.evaluator.+branch+call+condition+eval+node+operand+simple.Lts-simple as simple-lts
-use Rattle.fixpoint.proofs.codes.at_most_four.Reads as at-most-four-reads
-use Rattle.fixpoint.proofs.codes.digit.Reads as digit-reads
-use Rattle.fixpoint.proofs.codes.head.Reads as head-reads
-use Rattle.fixpoint.proofs.codes.next_index.Reads as next-index-reads
-use Rattle.fixpoint.proofs.codes.null.Reads as null-reads
-use Rattle.fixpoint.proofs.codes.radix.Reads as radix-reads
-use Rattle.fixpoint.proofs.codes.tail.Reads as tail-reads
+use Rattle.fixpoint.proofs.configurations.at_most_four.Reads as at-most-four-reads
+use Rattle.codes.proofs.digit.Reads as digit-reads
+use Rattle.fixpoint.proofs.words.head.Reads as head-reads
+use Rattle.codes.proofs.next_index.Reads as next-index-reads
+use Rattle.codes.proofs.null.Reads as null-reads
+use Rattle.codes.proofs.radix.Reads as radix-reads
+use Rattle.codes.proofs.tail.Reads as tail-reads
 use Rattle.fixpoint.proofs.words.byte_at.Reads as byte-at-reads
 use Rattle.fixpoint.proofs.words.end_at.Reads as end-at-reads
 use Rattle.fixpoint.proofs.evaluator.lookup.Reads as lookup-reads
@@ -113,7 +113,24 @@ abbrev branch-claims : ℕ → branch-lts.Claims
 branch-claims t = (condition-below t, condition.Post, end-at-reads.Asked, end-at-reads.Learnt, eval-below t, eval.Post)
 
 abbrev call-claims : ℕ → call-lts.Claims
-call-claims t = (at-most-four-reads.Asked, at-most-four-reads.Learnt, simple-below t, simple.Post, bit-reads.Asked, bit-reads.Learnt, radix-reads.Asked, radix-reads.Learnt, digit-reads.Asked, digit-reads.Learnt, next-index-reads.Asked, next-index-reads.Learnt, end-at-reads.Asked, end-at-reads.Learnt, lookup-reads.Asked, lookup-reads.Learnt)
+call-claims t = (
+  at-most-four-reads.Asked,
+  at-most-four-reads.Learnt,
+  simple-below t,
+  simple.Post,
+  bit-reads.Asked,
+  bit-reads.Learnt,
+  radix-reads.Asked,
+  radix-reads.Learnt,
+  digit-reads.Asked,
+  digit-reads.Learnt,
+  next-index-reads.Asked,
+  next-index-reads.Learnt,
+  end-at-reads.Asked,
+  end-at-reads.Learnt,
+  lookup-reads.Asked,
+  lookup-reads.Learnt,
+)
 
 abbrev condition-claims : ℕ → condition-lts.Claims
 condition-claims t = (byte-at-reads.Asked, byte-at-reads.Learnt, node-below t, node.Post, simple-below t, simple.Post)
@@ -122,13 +139,43 @@ abbrev eval-claims : ℕ → eval-lts.Claims
 eval-claims t = (node-below t, node.Post)
 
 abbrev node-claims : ℕ → node-lts.Claims
-node-claims t = (byte-at-reads.Asked, byte-at-reads.Learnt, node-of-reads.Asked, node-of-reads.Learnt, param-reads.Asked, param-reads.Learnt, operand-below t, operand.Post, head-reads.Asked, head-reads.Learnt, tail-reads.Asked, tail-reads.Learnt, null-reads.Asked, null-reads.Learnt, branch-below t, branch.Post, call-below t, call.Post)
+node-claims t = (
+  byte-at-reads.Asked,
+  byte-at-reads.Learnt,
+  node-of-reads.Asked,
+  node-of-reads.Learnt,
+  param-reads.Asked,
+  param-reads.Learnt,
+  operand-below t,
+  operand.Post,
+  head-reads.Asked,
+  head-reads.Learnt,
+  tail-reads.Asked,
+  tail-reads.Learnt,
+  null-reads.Asked,
+  null-reads.Learnt,
+  branch-below t,
+  branch.Post,
+  call-below t,
+  call.Post,
+)
 
 abbrev operand-claims : ℕ → operand-lts.Claims
 operand-claims t = (byte-at-reads.Asked, byte-at-reads.Learnt, param-reads.Asked, param-reads.Learnt, node-below t, node.Post)
 
 abbrev simple-claims : ℕ → simple-lts.Claims
-simple-claims t = (byte-at-reads.Asked, byte-at-reads.Learnt, operand-below t, operand.Post, head-reads.Asked, head-reads.Learnt, tail-reads.Asked, tail-reads.Learnt, null-reads.Asked, null-reads.Learnt)
+simple-claims t = (
+  byte-at-reads.Asked,
+  byte-at-reads.Learnt,
+  operand-below t,
+  operand.Post,
+  head-reads.Asked,
+  head-reads.Learnt,
+  tail-reads.Asked,
+  tail-reads.Learnt,
+  null-reads.Asked,
+  null-reads.Learnt,
+)
 
 abbrev call-Inv-loop : call-lts.InvT-loop
 call-Inv-loop words functions table env depth at callee g kinds count n index₀ place₀ i₀ index place i =
@@ -141,8 +188,10 @@ call-μ-loop words functions table env depth at callee g kinds count n index₀ 
 at-node : (t : ℕ) (c : node-lts.After-node-of (node-claims t) (node-at t) node.Post) {k : Node} → c .node-of .result ≡ k →
     let a = c .before .before .args in
     let S = setupIn (a .words .now) (a .functions .now) in
-    evalAt S (a .table .now .now) (a .env .now) (a .depth) (a .at) ≡ nodeBy S (a .table .now .now) (a .env .now) (evalAt S (a .table .now .now) (a .env .now) (a .depth - 1)) (a .at + 1) k
-at-node t c q = eval-node _ _ _ _ _ (c .before .before .pre .1 .1) (c .before .before .pre .1 .0) (c .before .byte-at .ensures) (sym (c .node-of .ensures) ∙ q)
+    evalAt S (a .table .now .now) (a .env .now) (a .depth) (a .at) ≡ nodeBy S (a .table .now .now) (a .env .now)
+    (evalAt S (a .table .now .now) (a .env .now) (a .depth - 1)) (a .at + 1) k
+at-node t c q = eval-node _ _ _ _ _ (c .before .before .pre .1 .1) (c .before .before .pre .1 .0) (c .before .byte-at .ensures)
+    (sym (c .node-of .ensures) ∙ q)
 
 branch-condition-requires : (t : ℕ) → branch-lts.Need-condition-requires (branch-claims t) (branch-at t) branch.Post
 branch-condition-requires t c κs = (omega arith, tt)
@@ -157,7 +206,9 @@ branch-eval-requires : (t : ℕ) → branch-lts.Need-eval-requires (branch-claim
 branch-eval-requires t c κs = (omega arith, tt)
 
 branch-returns : (t : ℕ) → branch-lts.Need-returns (branch-claims t) (branch-at t) branch.Post
-branch-returns t c = c .eval .ensures ∙ sym (branch-true _ _ _ _ _ (c .before .before .before .condition .ensures) (c .before .before .end-at .ensures) (c .before .if1 .taken))
+branch-returns t c = c .eval .ensures
+    ∙ sym (branch-true _ _ _ _ _ (c .before .before .before .condition .ensures) (c .before .before .end-at .ensures)
+    (c .before .if1 .taken))
 
 branch-end-at-requires-2 : (t : ℕ) → branch-lts.Need-end-at-requires-2 (branch-claims t) (branch-at t) branch.Post
 branch-end-at-requires-2 t c κs = search needs
@@ -169,7 +220,9 @@ branch-eval-requires-2 : (t : ℕ) → branch-lts.Need-eval-requires-2 (branch-c
 branch-eval-requires-2 t c κs = (omega arith, tt)
 
 branch-returns-2 : (t : ℕ) → branch-lts.Need-returns-2 (branch-claims t) (branch-at t) branch.Post
-branch-returns-2 t c = c .eval2 .ensures ∙ sym (branch-false _ _ _ _ _ (c .before .before .before .before .before .condition .ensures) (c .before .before .before .before .end-at .ensures) (c .before .end-at2 .ensures) (c .before .before .if2 .taken))
+branch-returns-2 t c = c .eval2 .ensures
+    ∙ sym (branch-false _ _ _ _ _ (c .before .before .before .before .before .condition .ensures)
+    (c .before .before .before .before .end-at .ensures) (c .before .end-at2 .ensures) (c .before .before .if2 .taken))
 
 branch-returns-3 : (t : ℕ) → branch-lts.Need-returns-3 (branch-claims t) (branch-at t) branch.Post
 branch-returns-3 t c = sym (branch-other _ _ _ _ _ (c .before .before .before .condition .ensures) (c .before .if1 .left) (c .if2 .left))
@@ -192,7 +245,8 @@ call-add-at-most-four t c = omega arith
 call-mul-at-most-four : (t : ℕ) → call-lts.Need-mul-at-most-four (call-claims t) (call-at t) call.Post call-Inv-loop call-μ-loop
 call-mul-at-most-four t c = omega arith
 
-call-element-copy-out-at-most-four : (t : ℕ) → call-lts.Need-element-copy-out-at-most-four (call-claims t) (call-at t) call.Post call-Inv-loop call-μ-loop
+call-element-copy-out-at-most-four : (t : ℕ)
+    → call-lts.Need-element-copy-out-at-most-four (call-claims t) (call-at t) call.Post call-Inv-loop call-μ-loop
 call-element-copy-out-at-most-four t c = omega arith
 
 call-at-most-four-requires : (t : ℕ) → call-lts.Need-at-most-four-requires (call-claims t) (call-at t) call.Post call-Inv-loop call-μ-loop
@@ -208,13 +262,23 @@ call-simple-requires : (t : ℕ) → call-lts.Need-simple-requires (call-claims 
 call-simple-requires t c κs = (omega arith, tt)
 
 call-returns-2 : (t : ℕ) → call-lts.Need-returns-2 (call-claims t) (call-at t) call.Post call-Inv-loop call-μ-loop
-call-returns-2 t c = sym (call-args _ _ _ _ _ _ (c .before .before .before .before .before .before .before .before .if1 .left) (c .before .before .before .before .before .at-most-four .ensures) ∙ along-stop (c .before .before .before .loop .inv) (c .before .before .loop-test .taken) 0 (c .before .simple .ensures) (c .if2 .taken) refl)
+call-returns-2 t c = sym (call-args _ _ _ _ _ _ (c .before .before .before .before .before .before .before .before .if1 .left)
+    (c .before .before .before .before .before .at-most-four .ensures)
+    ∙ along-stop (c .before .before .before .loop .inv) (c .before .before .loop-test .taken) 0 (c .before .simple .ensures) (c .if2 .taken)
+    refl)
 
 call-returns-3 : (t : ℕ) → call-lts.Need-returns-3 (call-claims t) (call-at t) call.Post call-Inv-loop call-μ-loop
-call-returns-3 t c = sym (call-args _ _ _ _ _ _ (c .before .before .before .before .before .before .before .before .before .if1 .left) (c .before .before .before .before .before .before .at-most-four .ensures) ∙ along-stop (c .before .before .before .before .loop .inv) (c .before .before .before .loop-test .taken) 3 (c .before .before .simple .ensures) (c .if3 .taken) refl)
+call-returns-3 t c = sym (call-args _ _ _ _ _ _ (c .before .before .before .before .before .before .before .before .before .if1 .left)
+    (c .before .before .before .before .before .before .at-most-four .ensures)
+    ∙ along-stop (c .before .before .before .before .loop .inv) (c .before .before .before .loop-test .taken) 3
+    (c .before .before .simple .ensures) (c .if3 .taken) refl)
 
 call-returns-4 : (t : ℕ) → call-lts.Need-returns-4 (call-claims t) (call-at t) call.Post call-Inv-loop call-μ-loop
-call-returns-4 t c = sym (call-args _ _ _ _ _ _ (c .before .before .before .before .before .before .before .before .before .before .if1 .left) (c .before .before .before .before .before .before .before .at-most-four .ensures) ∙ along-stop (c .before .before .before .before .before .loop .inv) (c .before .before .before .before .loop-test .taken) 4 (c .before .before .before .simple .ensures) (c .if4 .taken) refl)
+call-returns-4 t c = sym (call-args _ _ _ _ _ _
+    (c .before .before .before .before .before .before .before .before .before .before .if1 .left)
+    (c .before .before .before .before .before .before .before .at-most-four .ensures)
+    ∙ along-stop (c .before .before .before .before .before .loop .inv) (c .before .before .before .before .loop-test .taken) 4
+    (c .before .before .before .simple .ensures) (c .if4 .taken) refl)
 
 call-bit-requires : (t : ℕ) → call-lts.Need-bit-requires (call-claims t) (call-at t) call.Post call-Inv-loop call-μ-loop
 call-bit-requires t c κs = search needs
@@ -241,13 +305,20 @@ call-loop-less : (t : ℕ) → call-lts.Need-loop-less (call-claims t) (call-at 
 call-loop-less t c = omega arith
 
 call-loop-again : (t : ℕ) → call-lts.Need-loop-again (call-claims t) (call-at t) call.Post call-Inv-loop call-μ-loop
-call-loop-again t c = along-more (c .before .before .before .before .before .before .before .before .before .before .loop .inv) (c .before .before .before .before .before .before .before .before .before .loop-test .taken) (c .before .before .before .before .before .before .before .before .simple .ensures) (c .before .before .before .before .before .before .before .if2 .left) (c .before .before .before .before .before .before .if3 .left) (c .before .before .before .before .before .if4 .left) (c .before .before .before .before .bit .ensures) (c .before .before .before .radix .ensures) (c .before .before .digit .ensures) (c .before .next-index .ensures) (c .end-at .ensures)
+call-loop-again t c = along-more (c .before .before .before .before .before .before .before .before .before .before .loop .inv)
+    (c .before .before .before .before .before .before .before .before .before .loop-test .taken)
+    (c .before .before .before .before .before .before .before .before .simple .ensures)
+    (c .before .before .before .before .before .before .before .if2 .left) (c .before .before .before .before .before .before .if3 .left)
+    (c .before .before .before .before .before .if4 .left) (c .before .before .before .before .bit .ensures)
+    (c .before .before .before .radix .ensures) (c .before .before .digit .ensures) (c .before .next-index .ensures) (c .end-at .ensures)
 
 call-lookup-requires : (t : ℕ) → call-lts.Need-lookup-requires (call-claims t) (call-at t) call.Post call-Inv-loop call-μ-loop
 call-lookup-requires t c κs = omega arith
 
 call-returns-5 : (t : ℕ) → call-lts.Need-returns-5 (call-claims t) (call-at t) call.Post call-Inv-loop call-μ-loop
-call-returns-5 t c = c .lookup .ensures ∙ sym (call-args _ _ _ _ _ _ (c .before .before .before .before .before .before .before .if1 .left) (c .before .before .before .before .at-most-four .ensures) ∙ along-end (c .before .before .loop .inv) (c .before .loop-test .left))
+call-returns-5 t c = c .lookup .ensures
+    ∙ sym (call-args _ _ _ _ _ _ (c .before .before .before .before .before .before .before .if1 .left)
+    (c .before .before .before .before .at-most-four .ensures) ∙ along-end (c .before .before .loop .inv) (c .before .loop-test .left))
 
 condition-returns : (t : ℕ) → condition-lts.Need-returns (condition-claims t) (condition-at t) condition.Post
 condition-returns t c = sym (eval-deep _ _ _ _ _ (c .if1 .taken))
@@ -370,13 +441,16 @@ node-returns-4 : (t : ℕ) → node-lts.Need-returns-4 (node-claims t) (node-at 
 node-returns-4 t c = c .param .ensures ∙ sym (at-node t (c .before .before .before .before) (c .before .before .i .given .1))
 
 node-returns-5 : (t : ℕ) → node-lts.Need-returns-5 (node-claims t) (node-at t) node.Post
-node-returns-5 t c = (rw (c .before .operand .ensures) at (c .head .ensures)) ∙ sym (at-node t (c .before .before .before .before .before) (c .before .before .before .enum-told4 .given .1))
+node-returns-5 t c = (rw (c .before .operand .ensures) at (c .head .ensures))
+    ∙ sym (at-node t (c .before .before .before .before .before) (c .before .before .before .enum-told4 .given .1))
 
 node-returns-6 : (t : ℕ) → node-lts.Need-returns-6 (node-claims t) (node-at t) node.Post
-node-returns-6 t c = (rw (c .before .operand2 .ensures) at (c .tail .ensures)) ∙ sym (at-node t (c .before .before .before .before) (c .before .before .enum-told5 .given .1))
+node-returns-6 t c = (rw (c .before .operand2 .ensures) at (c .tail .ensures))
+    ∙ sym (at-node t (c .before .before .before .before) (c .before .before .enum-told5 .given .1))
 
 node-returns-7 : (t : ℕ) → node-lts.Need-returns-7 (node-claims t) (node-at t) node.Post
-node-returns-7 t c = (rw (c .before .operand3 .ensures) at (c .null .ensures)) ∙ sym (at-node t (c .before .before .before .before) (c .before .before .enum-told6 .given .1))
+node-returns-7 t c = (rw (c .before .operand3 .ensures) at (c .null .ensures))
+    ∙ sym (at-node t (c .before .before .before .before) (c .before .before .enum-told6 .given .1))
 
 node-returns-8 : (t : ℕ) → node-lts.Need-returns-8 (node-claims t) (node-at t) node.Post
 unfolding branchAt
@@ -405,7 +479,9 @@ operand-param-requires : (t : ℕ) → operand-lts.Need-param-requires (operand-
 operand-param-requires t c κs = search needs
 
 operand-returns-3 : (t : ℕ) → operand-lts.Need-returns-3 (operand-claims t) (operand-at t) operand.Post
-operand-returns-3 t c = c .param .ensures ∙ sym (eval-param _ _ _ _ _ (c .before .before .before .before .if2 .left) (c .before .before .before .before .before .if1 .left) (c .before .before .before .byte-at .ensures) (c .before .if4 .taken) (c .before .before .if3 .taken))
+operand-returns-3 t c = c .param .ensures
+    ∙ sym (eval-param _ _ _ _ _ (c .before .before .before .before .if2 .left) (c .before .before .before .before .before .if1 .left)
+    (c .before .before .before .byte-at .ensures) (c .before .if4 .taken) (c .before .before .if3 .taken))
 
 operand-cast-result : (t : ℕ) → operand-lts.Need-cast-result (operand-claims t) (operand-at t) operand.Post
 operand-cast-result t c = search needs
@@ -414,7 +490,9 @@ operand-add-result : (t : ℕ) → operand-lts.Need-add-result (operand-claims t
 operand-add-result t c = omega arith
 
 operand-returns-4 : (t : ℕ) → operand-lts.Need-returns-4 (operand-claims t) (operand-at t) operand.Post
-operand-returns-4 t c = sym (eval-truth _ _ _ _ _ (c .before .before .before .before .if2 .left) (c .before .before .before .before .before .if1 .left) (c .before .before .before .byte-at .ensures) (c .if5 .taken))
+operand-returns-4 t c = sym
+    (eval-truth _ _ _ _ _ (c .before .before .before .before .if2 .left) (c .before .before .before .before .before .if1 .left)
+    (c .before .before .before .byte-at .ensures) (c .if5 .taken))
 
 operand-node-requires : (t : ℕ) → operand-lts.Need-node-requires (operand-claims t) (operand-at t) operand.Post
 operand-node-requires t c κs = (omega arith, (c .before .before .before .if1 .left, c .before .before .if2 .left))
@@ -447,7 +525,10 @@ simple-head-requires : (t : ℕ) → simple-lts.Need-head-requires (simple-claim
 simple-head-requires t c κs = search needs
 
 simple-returns-3 : (t : ℕ) → simple-lts.Need-returns-3 (simple-claims t) (simple-at t) simple.Post
-simple-returns-3 t c = c .head .ensures ∙ sym (eval-head _ _ _ _ _ (c .before .before .before .before .before .if2 .left) (c .before .before .before .before .before .before .if1 .left) (c .before .before .before .before .byte-at .ensures) (c .before .before .before .if3 .taken) (c .before .operand .ensures))
+simple-returns-3 t c = c .head .ensures
+    ∙ sym (eval-head _ _ _ _ _ (c .before .before .before .before .before .if2 .left)
+    (c .before .before .before .before .before .before .if1 .left) (c .before .before .before .before .byte-at .ensures)
+    (c .before .before .before .if3 .taken) (c .before .operand .ensures))
 
 simple-operand-requires-2 : (t : ℕ) → simple-lts.Need-operand-requires-2 (simple-claims t) (simple-at t) simple.Post
 simple-operand-requires-2 t c κs = (omega arith, tt)
@@ -456,7 +537,10 @@ simple-tail-requires : (t : ℕ) → simple-lts.Need-tail-requires (simple-claim
 simple-tail-requires t c κs = search needs
 
 simple-returns-4 : (t : ℕ) → simple-lts.Need-returns-4 (simple-claims t) (simple-at t) simple.Post
-simple-returns-4 t c = c .tail .ensures ∙ sym (eval-tail _ _ _ _ _ (c .before .before .before .before .before .if2 .left) (c .before .before .before .before .before .before .if1 .left) (c .before .before .before .before .byte-at .ensures) (c .before .before .if4 .taken) (c .before .operand2 .ensures))
+simple-returns-4 t c = c .tail .ensures
+    ∙ sym (eval-tail _ _ _ _ _ (c .before .before .before .before .before .if2 .left)
+    (c .before .before .before .before .before .before .if1 .left) (c .before .before .before .before .byte-at .ensures)
+    (c .before .before .if4 .taken) (c .before .operand2 .ensures))
 
 simple-operand-requires-3 : (t : ℕ) → simple-lts.Need-operand-requires-3 (simple-claims t) (simple-at t) simple.Post
 simple-operand-requires-3 t c κs = (omega arith, tt)
@@ -465,7 +549,10 @@ simple-null-requires : (t : ℕ) → simple-lts.Need-null-requires (simple-claim
 simple-null-requires t c κs = search needs
 
 simple-returns-5 : (t : ℕ) → simple-lts.Need-returns-5 (simple-claims t) (simple-at t) simple.Post
-simple-returns-5 t c = c .null .ensures ∙ sym (eval-null _ _ _ _ _ (c .before .before .before .before .before .before .if2 .left) (c .before .before .before .before .before .before .before .if1 .left) (c .before .before .before .before .before .byte-at .ensures) (c .before .before .if5 .taken) (c .before .operand3 .ensures))
+simple-returns-5 t c = c .null .ensures
+    ∙ sym (eval-null _ _ _ _ _ (c .before .before .before .before .before .before .if2 .left)
+    (c .before .before .before .before .before .before .before .if1 .left) (c .before .before .before .before .before .byte-at .ensures)
+    (c .before .before .if5 .taken) (c .before .operand3 .ensures))
 
 simple-operand-requires-4 : (t : ℕ) → simple-lts.Need-operand-requires-4 (simple-claims t) (simple-at t) simple.Post
 simple-operand-requires-4 t c κs = (omega arith, tt)
@@ -475,10 +562,30 @@ simple-returns-6 t c = c .operand4 .ensures
 
 pub +branch+call+condition+eval+node+operand+simple-spec : {M : Type 1} → statement M
 +branch+call+condition+eval+node+operand+simple-spec = close μ-branch μ-call μ-condition μ-eval μ-node μ-operand μ-simple
-    (λ t. branch-lts.spec (branch-claims t) (branch-at t) branch.Post (branch-condition-requires t) (branch-end-at-requires t) (branch-cast-first t) (branch-eval-requires t) (branch-returns t) (branch-end-at-requires-2 t) (branch-cast-eval t) (branch-eval-requires-2 t) (branch-returns-2 t) (branch-returns-3 t))
-    (λ t. call-lts.spec (call-claims t) (call-at t) call.Post call-Inv-loop call-μ-loop (call-returns t) (call-add-kinds t) (call-mul-kinds t) (call-element-copy-out-kinds t) (call-add-at-most-four t) (call-mul-at-most-four t) (call-element-copy-out-at-most-four t) (call-at-most-four-requires t) (call-element-copy-out-n t) (call-loop-holds t) (call-simple-requires t) (call-returns-2 t) (call-returns-3 t) (call-returns-4 t) (call-bit-requires t) (call-radix-requires t) (call-digit-requires t) (call-next-index-requires t) (call-end-at-requires t) (call-cast-place t) (call-add-i t) (call-loop-less t) (call-loop-again t) (call-lookup-requires t) (call-returns-5 t))
-    (λ t. condition-lts.spec (condition-claims t) (condition-at t) condition.Post (condition-returns t) (condition-returns-2 t) (condition-byte-at-requires t) (condition-node-requires t) (condition-returns-3 t) (condition-simple-requires t) (condition-returns-4 t))
+    (λ t. branch-lts.spec (branch-claims t) (branch-at t) branch.Post (branch-condition-requires t) (branch-end-at-requires t)
+    (branch-cast-first t) (branch-eval-requires t) (branch-returns t) (branch-end-at-requires-2 t) (branch-cast-eval t)
+    (branch-eval-requires-2 t) (branch-returns-2 t) (branch-returns-3 t))
+    (λ t. call-lts.spec (call-claims t) (call-at t) call.Post call-Inv-loop call-μ-loop (call-returns t) (call-add-kinds t)
+    (call-mul-kinds t) (call-element-copy-out-kinds t) (call-add-at-most-four t) (call-mul-at-most-four t)
+    (call-element-copy-out-at-most-four t) (call-at-most-four-requires t) (call-element-copy-out-n t) (call-loop-holds t)
+    (call-simple-requires t) (call-returns-2 t) (call-returns-3 t) (call-returns-4 t) (call-bit-requires t) (call-radix-requires t)
+    (call-digit-requires t) (call-next-index-requires t) (call-end-at-requires t) (call-cast-place t) (call-add-i t) (call-loop-less t)
+    (call-loop-again t) (call-lookup-requires t) (call-returns-5 t))
+    (λ t. condition-lts.spec (condition-claims t) (condition-at t) condition.Post (condition-returns t) (condition-returns-2 t)
+    (condition-byte-at-requires t) (condition-node-requires t) (condition-returns-3 t) (condition-simple-requires t)
+    (condition-returns-4 t))
     (λ t. eval-lts.spec (eval-claims t) (eval-at t) eval.Post (eval-returns t) (eval-returns-2 t) (eval-node-requires t) (eval-returns-3 t))
-    (λ t. node-lts.spec (node-claims t) (node-at t) node.Post (node-sub-left t) (node-add-next t) (node-byte-at-requires t) (node-node-of-requires t) (node-enum-told t) (node-enum-told-2 t) (node-enum-told-3 t) (node-enum-known-i t) (node-param-requires t) (node-enum-told-4 t) (node-element-copy-out-head t) (node-operand-requires t) (node-head-requires t) (node-enum-told-5 t) (node-operand-requires-2 t) (node-tail-requires t) (node-enum-told-6 t) (node-operand-requires-3 t) (node-null-requires t) (node-enum-told-7 t) (node-branch-requires t) (node-enum-told-8 t) (node-enum-known-g t) (node-call-requires t) (node-enum-told-9 t) (node-returns t) (node-returns-2 t) (node-returns-3 t) (node-returns-4 t) (node-returns-5 t) (node-returns-6 t) (node-returns-7 t) (node-returns-8 t) (node-returns-9 t) (node-returns-10 t) (node-returns-11 t))
-    (λ t. operand-lts.spec (operand-claims t) (operand-at t) operand.Post (operand-returns t) (operand-returns-2 t) (operand-byte-at-requires t) (operand-param-requires t) (operand-returns-3 t) (operand-cast-result t) (operand-add-result t) (operand-returns-4 t) (operand-node-requires t) (operand-returns-5 t))
-    (λ t. simple-lts.spec (simple-claims t) (simple-at t) simple.Post (simple-returns t) (simple-returns-2 t) (simple-byte-at-requires t) (simple-sub-left t) (simple-add-next t) (simple-element-copy-out-head t) (simple-operand-requires t) (simple-head-requires t) (simple-returns-3 t) (simple-operand-requires-2 t) (simple-tail-requires t) (simple-returns-4 t) (simple-operand-requires-3 t) (simple-null-requires t) (simple-returns-5 t) (simple-operand-requires-4 t) (simple-returns-6 t))
+    (λ t. node-lts.spec (node-claims t) (node-at t) node.Post (node-sub-left t) (node-add-next t) (node-byte-at-requires t)
+    (node-node-of-requires t) (node-enum-told t) (node-enum-told-2 t) (node-enum-told-3 t) (node-enum-known-i t) (node-param-requires t)
+    (node-enum-told-4 t) (node-element-copy-out-head t) (node-operand-requires t) (node-head-requires t) (node-enum-told-5 t)
+    (node-operand-requires-2 t) (node-tail-requires t) (node-enum-told-6 t) (node-operand-requires-3 t) (node-null-requires t)
+    (node-enum-told-7 t) (node-branch-requires t) (node-enum-told-8 t) (node-enum-known-g t) (node-call-requires t) (node-enum-told-9 t)
+    (node-returns t) (node-returns-2 t) (node-returns-3 t) (node-returns-4 t) (node-returns-5 t) (node-returns-6 t) (node-returns-7 t)
+    (node-returns-8 t) (node-returns-9 t) (node-returns-10 t) (node-returns-11 t))
+    (λ t. operand-lts.spec (operand-claims t) (operand-at t) operand.Post (operand-returns t) (operand-returns-2 t)
+    (operand-byte-at-requires t) (operand-param-requires t) (operand-returns-3 t) (operand-cast-result t) (operand-add-result t)
+    (operand-returns-4 t) (operand-node-requires t) (operand-returns-5 t))
+    (λ t. simple-lts.spec (simple-claims t) (simple-at t) simple.Post (simple-returns t) (simple-returns-2 t) (simple-byte-at-requires t)
+    (simple-sub-left t) (simple-add-next t) (simple-element-copy-out-head t) (simple-operand-requires t) (simple-head-requires t)
+    (simple-returns-3 t) (simple-operand-requires-2 t) (simple-tail-requires t) (simple-returns-4 t) (simple-operand-requires-3 t)
+    (simple-null-requires t) (simple-returns-5 t) (simple-operand-requires-4 t) (simple-returns-6 t))

@@ -40,8 +40,10 @@ add-cell c = search needs
 
 values-requires : tie.Need-values-requires
 values-requires c κs =
-    let a = c .before .before .before .before .before .before .args in
-    (rw (c .before .before .at-most-four .ensures) (few-bound (getD (a .functions .now) (64 + a .g) 0)), c .before .before .before .before .before .before .pre .0 .samples)
+    let a = c .before .before .before .before .before .before .args in (
+      rw (c .before .before .at-most-four .ensures) (few-bound (getD (a .functions .now) (64 + a .g) 0)),
+      c .before .before .before .before .before .before .pre .0 .samples,
+    )
 
 outcome-requires : tie.Need-outcome-requires
 outcome-requires c κs = search needs
@@ -54,7 +56,9 @@ returns c =
     let values = c .before .before .before .before in
     let counted = values .before .before .before in
     let a = counted .before .before .before .before .args in
-    fill-none (setupIn (a .words .now) (a .functions .now)) _ _ _ _ _ (env-filled (a .functions .now) (a .n) (a .g) (a .index) (counted .at-most-four .ensures) (values .values .ensures)) (c .before .outcome .ensures) (c .if1 .taken)
+    fill-none (setupIn (a .words .now) (a .functions .now)) _ _ _ _ _
+    (env-filled (a .functions .now) (a .n) (a .g) (a .index) (counted .at-most-four .ensures) (values .values .ensures))
+    (c .before .outcome .ensures) (c .if1 .taken)
 
 mul-table : tie.Need-mul-table
 mul-table c = search needs
@@ -70,7 +74,9 @@ returns-2 c =
     let values = c .before .before .before .before in
     let counted = values .before .before .before in
     let a = counted .before .before .before .before .args in
-    fill-stored (setupIn (a .words .now) (a .functions .now)) _ _ _ _ _ (env-filled (a .functions .now) (a .n) (a .g) (a .index) (counted .at-most-four .ensures) (values .values .ensures)) (c .before .outcome .ensures) (c .if1 .left)
+    fill-stored (setupIn (a .words .now) (a .functions .now)) _ _ _ _ _
+    (env-filled (a .functions .now) (a .n) (a .g) (a .index) (counted .at-most-four .ensures) (values .values .ensures))
+    (c .before .outcome .ensures) (c .if1 .left)
 
 pub fill-spec : {M : Type 1} → statement M
 fill-spec =

@@ -6,7 +6,8 @@ use native.Mathlib.Omega.{arith}
 use lib.ListN.{length, getD}
 use borrow.Author.Needs.{needs}
 use Rattle.trace.specs.{bitOf}
-use Rattle.fixpoint.specs.Mirror.{decidedCode, setupIn, kindsOf, sizeOf}
+use Rattle.codes.specs.{decidedCode}
+use Rattle.fixpoint.specs.Mirror.{setupIn, kindsOf, sizeOf}
 use Rattle.fixpoint.proofs.SetupLoops.{few-bound}
 use Rattle.fixpoint.proofs.PassWays.{Visited, visited-start, visited-length, visited-few, visited-kept, visited-open, visited-end}
 use Rattle.fixpoint.proofs.passes.pass_function.Statement.{statement}
@@ -19,7 +20,8 @@ Inv-loop words functions table₀ n g start kinds count list first last stored�
 abbrev μ-loop : tie.MeasureT-loop
 μ-loop words functions table₀ n g start kinds count list first last stored₀ i₀ table stored i = last - i
 
-sized : (c : tie.After-size Inv-loop μ-loop) → let a = c .before .before .before .before .before .before .before .args in c .size .result ≡ sizeOf (a .functions .now) (a .n) (a .g)
+sized : (c : tie.After-size Inv-loop μ-loop) → let a =
+    c .before .before .before .before .before .before .before .args in c .size .result ≡ sizeOf (a .functions .now) (a .n) (a .g)
 sized c = rw (c .before .before .before .at-most-four .ensures) at (c .size .ensures .0)
 
 -- a configuration's cell lies within the table
@@ -67,8 +69,10 @@ element-copy-out-first c = search needs
 
 size-requires : tie.Need-size-requires Inv-loop μ-loop
 size-requires c κs =
-    let a = c .before .before .before .before .before .before .args in
-    (rw (c .before .before .at-most-four .ensures) (few-bound (getD (a .functions .now) (64 + a .g) 0)), c .before .before .before .before .before .before .pre .samples)
+    let a = c .before .before .before .before .before .before .args in (
+      rw (c .before .before .at-most-four .ensures) (few-bound (getD (a .functions .now) (64 + a .g) 0)),
+      c .before .before .before .before .before .before .pre .samples,
+    )
 
 loop-holds : tie.Need-loop-holds Inv-loop μ-loop
 loop-holds c = (visited-start _ _ _ _ _, omega arith)

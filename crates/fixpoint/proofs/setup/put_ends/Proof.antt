@@ -32,7 +32,8 @@ loop-less : tie.Need-loop-less Inv-loop μ-loop
 loop-less c = omega arith
 
 loop-again : tie.Need-loop-again Inv-loop μ-loop
-loop-again c = ended-more _ _ _ _ _ (c .before .before .before .loop .inv) (c .before .before .loop-test .taken) (c .before .before .before .before .pre) (c .end-by .ensures)
+loop-again c = ended-more _ _ _ _ _ (c .before .before .before .loop .inv) (c .before .before .loop-test .taken)
+    (c .before .before .before .before .pre) (c .end-by .ensures)
 
 returns : tie.Need-returns Inv-loop μ-loop
 returns c = ended-whole _ _ _ _ _ (c .before .loop .inv) (c .loop-test .left)
