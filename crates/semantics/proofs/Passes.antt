@@ -4,7 +4,7 @@
 --   Closed, still-closed                         after it no undecided cell has a decided body
 --   undecided-visits, undecided-pass               the undecided cells that a pass leaves, and the outcomes that it stores
 --   visits-good, pass-good, after-good             only derived outcomes are stored
---   closed-calls                                 a settled table's calls are closed under evaluation
+--   closed-calls                                   a closed table's calls are closed under evaluation
 --   first-still, count-in-time                     the pass count
 --   final-good, final-still                        the table when passes end
 --   stored-append, visit-append, visits-append,

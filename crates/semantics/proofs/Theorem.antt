@@ -1,6 +1,6 @@
 -- Demand 3, in the order of its proof:
 --   good-content     a cell's content is the number of what the table says of its configuration
---   closed-found     a settled table holds each outcome that has a derivation
+--   closed-found     a closed table holds each outcome that has a derivation
 --   closed-right     so what it says of a configuration is right
 --   main-said        what is decided from main's cell is what the table says of main on the whole trace
 --   decides          the verdict and the table when passes end are what evaluating owes
