@@ -1,11 +1,11 @@
 -- The numbers of outcomes, worked with as the rules work with outcomes:
 --   OfKind                                  no outcome, or one of a kind
 --   head-means, tail-means, null-means      hd, tl and null
---   value-goes                              a value does not end its call
---   digit-means                             the digit of a value
---   radix-truth, radix-list                 how many digits each kind has
---   decided-truth, decided-list             what a cell holds, by the result kind of its function
-use Prim.Native.Nat.{ℕ, zero, suc, _+_, _-_, _<_}
+--   radix-means                             how many values a kind has
+--   value-own, value-digit                  a value is not foreign to its kind, and what digit it has there
+--   none-foreign, failed-foreign            undecided and errors are foreign to every kind
+--   decided-means                           what a cell holds, by the result kind of its function
+use Prim.Native.Nat.{ℕ, zero, suc, _+_, _-_, _<_, _≤_}
 use native.Mathlib.Omega.{arith}
 use mathlib.Core.Path.{_≡_, refl, _∙_}
 use mathlib.Core.Bool.{Bool, true, false, cond}
@@ -13,15 +13,16 @@ use mathlib.Core.List.{List}
 use mathlib.Core.Option.{Option, none, some}
 use lib.ListN.{length, getD}
 use lib.Dec.{T, leb, leb→le}
-use borrow.Author.Tests.{lt-ltb, le-ltb, ne-eqb, leb-true, leb-false}
+use borrow.Author.Tests.{lt-ltb, le-ltb, lt-leb, ne-eqb, leb-true, leb-false}
+use Rattle.semantics.specs.declared.Error.{Error}
 use Rattle.semantics.specs.declared.Error.the-variants.{Head, Tail}
 use Rattle.semantics.specs.declared.Outcome.{Outcome}
 use Rattle.semantics.specs.declared.Outcome.the-variants.{Truth, Suffix, Failed}
-use Rattle.semantics.specs.Language.{Kind, truth, list, hd, tl, null, Trace, Value, bit, suffix, given}
+use Rattle.semantics.specs.Language.{Kind, truth, list, isList, hd, tl, null, Trace, Value, bit, suffix, given, inKind}
 use Rattle.semantics.specs.Numbering.{kindSize, digitOf}
-use Rattle.semantics.specs.Cells.{falseCode, trueCode, suffixCode, codeOf, contentOf, outcomeIn, ofKind}
+use Rattle.semantics.specs.Cells.{undecidedCode, falseCode, trueCode, headCode, tailCode, suffixCode, codeOf, contentOf, outcomeIn, ofKind}
 use Rattle.semantics.specs.Bodies.{withValue, operated}
-use Rattle.codes.specs.{sampleCode, headOf, tailOf, nullOf, digitCode, radixOf, decidedCode, endsCall}
+use Rattle.codes.specs.{sampleCode, headOf, tailOf, nullOf, radixOf, lowestCode, foreign, leastCode, mostCode, decidedCode}
 
 -- no outcome, or one of a kind
 abbrev pub OfKind : Trace → Kind → Option Outcome → Type 0
@@ -66,55 +67,77 @@ module _ (t : Trace) where
   null-means (some (Failed Head)) h = refl
   null-means (some (Failed Tail)) h = refl
 
--- ---- Arguments
+-- ---- Values
 
-pub digit-means : (v : Value) → digitCode (codeOf (given v)) ≡ digitOf v
-digit-means (bit true) = refl
-digit-means (bit false) = refl
-digit-means (suffix k) = simp (le-ltb (5 + k) 5 (omega arith)) (suffix-code k)
+pub radix-means : (t : Trace) (κ : Kind) → radixOf (isList κ) (length t) ≡ kindSize t κ
+radix-means t truth = refl
+radix-means t list = omega arith
 
-pub value-goes : (v : Value) → endsCall (codeOf (given v)) ≡ false
-value-goes (bit true) = refl
-value-goes (bit false) = refl
-value-goes (suffix k) = simp (ne-eqb (5 + k) 0 (λ z. omega arith), ne-eqb (5 + k) 3 (λ z. omega arith), ne-eqb (5 + k) 4 (λ z. omega arith))
+-- the number of a value is as far above the lowest of its kind as its digit says
+pub value-digit : (t : Trace) (κ : Kind) (v : Value) → T (inKind t κ v) → codeOf (given v) - lowestCode (isList κ) ≡ digitOf v
+value-digit t truth (bit true) h = refl
+value-digit t truth (bit false) h = refl
+value-digit t truth (suffix k) h = absurd h
+value-digit t list (bit b) h = absurd h
+value-digit t list (suffix k) h = suffix-code k
 
-pub radix-truth : (t : Trace) → radixOf false (length t) ≡ kindSize t truth
-radix-truth t = refl
+own : (lowest radix c : ℕ) → lowest ≤ c → c - lowest < radix → foreign lowest radix c ≡ false
+own lowest radix c h l = simp (le-ltb c lowest h, lt-leb radix (c - lowest) l)
 
-pub radix-list : (t : Trace) → radixOf true (length t) ≡ kindSize t list
-radix-list t = omega arith
+pub value-own : (t : Trace) (κ : Kind) (v : Value) → T (inKind t κ v) → foreign (lowestCode (isList κ)) (kindSize t κ) (codeOf (given v)) ≡ false
+value-own t truth (bit true) h = refl
+value-own t truth (bit false) h = refl
+value-own t truth (suffix k) h = absurd h
+value-own t list (bit b) h = absurd h
+value-own t list (suffix k) h =
+    let l = leb→le k (length t) h in
+    own suffixCode (suc (length t)) (suffixCode + k) (omega arith) (omega arith)
+
+pub none-foreign : (t : Trace) (κ : Kind) → foreign (lowestCode (isList κ)) (kindSize t κ) undecidedCode ≡ true
+none-foreign t truth = refl
+none-foreign t list = refl
+
+pub failed-foreign : (t : Trace) (κ : Kind) (x : Error) → foreign (lowestCode (isList κ)) (kindSize t κ) (codeOf (Failed x)) ≡ true
+failed-foreign t truth Head = refl
+failed-foreign t truth Tail = refl
+failed-foreign t list Head = refl
+failed-foreign t list Tail = refl
 
 -- ---- What a cell holds
 
-pub decided-truth : (t : Trace) (cell : ℕ) → decidedCode false (length t) cell ≡ contentOf (outcomeIn t truth cell)
+decided-truth : (t : Trace) (cell : ℕ) → decidedCode falseCode tailCode cell ≡ contentOf (outcomeIn t truth cell)
 unfolding outcomeIn
 decided-truth t zero = refl
 decided-truth t (suc zero) = refl
 decided-truth t (suc (suc zero)) = refl
 decided-truth t (suc (suc (suc zero))) = refl
 decided-truth t (suc (suc (suc (suc zero)))) = refl
-decided-truth t (suc (suc (suc (suc (suc k))))) = rw (lt-ltb 4 (suc (suc (suc (suc (suc k))))) (omega arith))
+decided-truth t (suc (suc (suc (suc (suc k))))) =
+    let cell = suc (suc (suc (suc (suc k)))) in
+    rw (le-ltb cell 1 (omega arith), lt-ltb 4 cell (omega arith))
 
 -- a list function's cell that is the number of a suffix
-decided-suffix : (n k cell : ℕ) → cell ≡ 5 + k → decidedCode true n cell ≡ contentOf (cond (leb k n) (some (Suffix k)) none)
+decided-suffix : (n k cell : ℕ) → cell ≡ 5 + k → decidedCode headCode (n + suffixCode) cell ≡ contentOf (cond (leb k n) (some (Suffix k)) none)
 decided-suffix n k cell e = go (leb k n) refl
   where
-    back : cell - 5 ≡ k
-    back = omega arith
-
-    go : (b : Bool) → leb k n ≡ b → decidedCode true n cell ≡ contentOf (cond b (some (Suffix k)) none)
+    go : (b : Bool) → leb k n ≡ b → decidedCode headCode (n + suffixCode) cell ≡ contentOf (cond b (some (Suffix k)) none)
     go true h =
         let l = leb-true k n h in
-        simp (le-ltb cell 3 (omega arith), le-ltb cell 5 (omega arith), back, le-ltb n k l) e
+        simp (le-ltb cell 3 (omega arith), le-ltb (n + 5) cell (omega arith)) e
     go false h =
         let l = leb-false k n h in
-        simp (le-ltb cell 3 (omega arith), le-ltb cell 5 (omega arith), back, lt-ltb n k l)
+        simp (le-ltb cell 3 (omega arith), lt-ltb (n + 5) cell (omega arith))
 
-pub decided-list : (t : Trace) (cell : ℕ) → decidedCode true (length t) cell ≡ contentOf (outcomeIn t list cell)
+decided-list : (t : Trace) (cell : ℕ) → decidedCode headCode (length t + suffixCode) cell ≡ contentOf (outcomeIn t list cell)
 unfolding outcomeIn
 decided-list t zero = refl
 decided-list t (suc zero) = refl
 decided-list t (suc (suc zero)) = refl
-decided-list t (suc (suc (suc zero))) = refl
-decided-list t (suc (suc (suc (suc zero)))) = refl
+decided-list t (suc (suc (suc zero))) = simp (le-ltb (length t + 5) 3 (omega arith))
+decided-list t (suc (suc (suc (suc zero)))) = simp (le-ltb (length t + 5) 4 (omega arith))
 decided-list t (suc (suc (suc (suc (suc k))))) = decided-suffix (length t) k (suc (suc (suc (suc (suc k))))) (omega arith)
+
+pub decided-means : (t : Trace) (κ : Kind) (cell : ℕ)
+    → decidedCode (leastCode (isList κ)) (mostCode (isList κ) (length t)) cell ≡ contentOf (outcomeIn t κ cell)
+decided-means t truth cell = decided-truth t cell
+decided-means t list cell = decided-list t cell

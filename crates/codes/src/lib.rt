@@ -1,8 +1,8 @@
-// Outcomes as the numbers that stand for them in a cell: hd, tl and null of them, what a cell holds, and the number of a
-// configuration by the numbers of its values. Every function answers for all numbers.
+// Outcomes as the numbers that stand for them in a cell: hd, tl and null of them, and what a cell holds. Every function
+// answers for all numbers.
 ghost use mathlib.Core.Path.{_≡_};
 ghost use Prim.Native.Nat.{min};
-ghost use Rattle.codes.specs.{headOf, tailOf, nullOf, decidedCode, digitCode, radixOf, nextIndex, sampleCode};
+ghost use Rattle.codes.specs.{headOf, tailOf, nullOf, decidedCode, radixOf, sampleCode, leastCode, mostCode, lowestCode};
 
 // The numbers of outcomes; a suffix of length k is SUFFIX + k.
 pub const UNDECIDED: u16 = 0;
@@ -17,14 +17,11 @@ pub const TAIL: u16 = 4;
 
 pub const SUFFIX: u16 = 5;
 
-// Numbers of configurations and of first cells are below this one; it stands for all above.
-pub const BOUND: u64 = 4294967296;
+// The most bytes of a trace.
+pub const TRACE_BYTES: usize = 512;
 
-// Digits and radices are below this one.
-const DIGIT_BOUND: u64 = 65536;
-
-// hd of what its operand gave. `trace` has the bytes of the trace, a word each, and `n` is its length.
-pub fn head(trace: &[u16], n: u16, operand: u16) -> u16
+// hd of what its operand gave. `trace` has the bytes of the trace, and `n` is its length.
+pub fn head(trace: &[u8; TRACE_BYTES], n: u16, operand: u16) -> u16
     ensures { λ r. ⌜ r ≡ headOf (now (trace .entry)) n operand ⌝ }
 {
     if operand < SUFFIX {
@@ -40,19 +37,19 @@ pub fn head(trace: &[u16], n: u16, operand: u16) -> u16
     sample(trace, n - length)
 }
 
-// Sample i of the trace as a number.
-fn sample(trace: &[u16], i: u16) -> u16
+// Sample i of the trace as a number. It is worked out without a branch, which a mixed trace would mislead.
+fn sample(trace: &[u8; TRACE_BYTES], i: u16) -> u16
     ensures { λ r. ⌜ r ≡ sampleCode (now (trace .entry)) i ⌝ }
 {
-    let at = (i / 8) as usize;
-    if trace.len() <= at {
-        return FALSE;
-    }
-    if (trace[at] >> (i % 8)) % 2 == 1 {
-        TRUE
-    } else {
-        FALSE
-    }
+    let byte = wide(trace[((i / 8) % 512) as usize]);
+    (byte >> (i % 8)) % 2 + FALSE
+}
+
+// A byte as a number.
+fn wide(byte: u8) -> u16
+    ensures { λ r. ⌜ r ≡ byte ⌝ }
+{
+    byte as u16
 }
 
 // tl of what its operand gave.
@@ -75,37 +72,42 @@ pub fn null(operand: u16) -> u16
     if operand == SUFFIX { TRUE } else { FALSE }
 }
 
-// What a cell of a function holds: a number that is no outcome of the result kind counts as undecided.
-pub fn decided(list: bool, n: u16, cell: u16) -> u16
-    ensures { λ r. ⌜ r ≡ decidedCode list n cell ⌝ }
+// What a cell holds: a number that is not from `least` to `most` is no outcome of its kind, and counts as undecided.
+pub fn decided(least: u16, most: u16, cell: u16) -> u16
+    ensures { λ r. ⌜ r ≡ decidedCode least most cell ⌝ }
 {
-    if list {
-        if cell < HEAD {
-            return UNDECIDED;
-        }
-        if cell < SUFFIX {
-            return cell;
-        }
-        if n < cell - SUFFIX {
-            return UNDECIDED;
-        }
-        return cell;
+    if cell < least {
+        return UNDECIDED;
     }
-    if TAIL < cell {
+    if most < cell {
         return UNDECIDED;
     }
     cell
 }
 
-// The place of a value among those of its kind.
-pub fn digit(code: u16) -> u64
-    ensures { λ r. ⌜ r ≡ digitCode code ⌝ }
+// The least number of an outcome of a kind.
+pub fn least(list: bool) -> u64
+    ensures { λ r. ⌜ r ≡ leastCode list ⌝ }
 {
-    if code < SUFFIX {
-        if code == TRUE { 1 } else { 0 }
+    if list { HEAD as u64 } else { FALSE as u64 }
+}
+
+// The most; `n` is the length of the trace.
+pub fn most(list: bool, n: u16) -> u64
+    ensures { λ r. ⌜ r ≡ mostCode list n ⌝ }
+{
+    if list {
+        (n as u64) + SUFFIX as u64
     } else {
-        (code - SUFFIX) as u64
+        TAIL as u64
     }
+}
+
+// The number of the first value of a kind; the others follow.
+pub fn lowest(list: bool) -> u64
+    ensures { λ r. ⌜ r ≡ lowestCode list ⌝ }
+{
+    if list { SUFFIX as u64 } else { FALSE as u64 }
 }
 
 // How many values a kind has.
@@ -113,20 +115,6 @@ pub fn radix(list: bool, n: u16) -> u64
     ensures { λ r. ⌜ r ≡ radixOf list n ⌝ }
 {
     if list { (n as u64) + 1 } else { 2 }
-}
-
-// One digit more of a configuration's number; the numbers of a table that is lent stay far below BOUND.
-pub fn next_index(index: u64, radix: u64, digit: u64) -> u64
-    ensures { λ r. ⌜ r ≡ nextIndex index radix digit ⌝ }
-{
-    if index < BOUND {
-        if radix < DIGIT_BOUND {
-            if digit < DIGIT_BOUND {
-                return index * radix + digit;
-            }
-        }
-    }
-    BOUND
 }
 
 // The smaller of two numbers.

@@ -8,7 +8,8 @@ use native.Mathlib.Omega.{arith}
 use mathlib.Core.Path.{_≡_, ap, _∙_}
 use mathlib.Core.List.{List, [], _∷_, _++_}
 use mathlib.Core.Option.{some}
-use lib.ListN.{length, getElem?, getD, drop, replicate, length-append, List·getD-append}
+use lib.ListN.{length, getElem?, getD, take, drop, replicate, length-append, List·getD-append}
+use lib.Seq.{take-all}
 use Rattle.trace.specs.{samples}
 use Rattle.trace.proofs.Packing.{length-samples, bytes-few}
 use Rattle.semantics.specs.declared.Decision.{Decision}
@@ -19,13 +20,16 @@ use Rattle.semantics.specs.Passes.{finalTable, passCount, decidedTable}
 use Rattle.semantics.specs.Verdicts.{mainDecision, verdictOf}
 use Rattle.semantics.proofs.Passes.{length-after}
 use Rattle.rule.specs.declared.Outline.{Outline}
+use Rattle.rule.specs.Form.{padded}
 use Rattle.rule.specs.Outline.{outlineOf}
 use Rattle.rule.proofs.Programs.{read-encoded}
 use Rattle.rule.specs.Reading.{programIn, programOf}
 use Rattle.fixpoint.specs.declared.setup.Cells.{Cells}
-use Rattle.fixpoint.specs.Mirror.{mostTraceBytes, Setup, setupIn, wordsOf, passVisits, passCounts, mostPasses, tableFrom, passesRun, cleared}
+use Rattle.codes.specs.{mostTraceBytes}
+use Rattle.decoding.specs.Words.{mostWords}
+use Rattle.decoding.specs.Decoding.{wordsFilled}
+use Rattle.fixpoint.specs.Mirror.{Setup, setup, passVisits, passCounts, mostPasses, tableFrom, passesRun, cleared}
 use Rattle.evaluate.specs.Settled.{Settled}
-use Rattle.fixpoint.proofs.WordsPut.{words-parts}
 use Rattle.fixpoint.proofs.PassWays.{cleared-within}
 use Rattle.fixpoint.proofs.PassMeaning.{Runs, pass-means, counts-mean}
 use Rattle.fixpoint.proofs.FinalMeaning.{table-means, passes-mean}
@@ -59,24 +63,25 @@ module _ {bytes trace : List ℕ} {n : ℕ} {outline : Outline} {places : Cells}
   unfolding finalTable
   final-below = omega (arith, length-after (u .program) Bits (passCount (u .program) Bits), main-below)
 
-  -- the words are those of the program, whose bytes are bytes, and the trace
-  module _ (known : (i : ℕ) → getD bytes i 0 < 256) {words : List ℕ} (w : words ≡ wordsOf bytes (outline .params) trace) where
+  -- the arrays are those of the program and the trace
+  module _ {words bytesOf : List ℕ}
+      (w : words ≡ wordsFilled bytes (outline .params) (places .functions) (outline .functions) n (replicate mostWords 0))
+      (z : bytesOf ≡ padded mostTraceBytes 0 (take mostTraceBytes trace)) where
     abbrev S : Setup
-    S = setupIn words (places .functions)
+    S = setup words (places .functions) bytesOf
 
     run-here : Runs (u .program) Bits bytes S (outline .starts)
     run-here =
-        let p = words-parts bytes (outline .params) trace known w (u .accepted .short) trace-short in
-        rw (p .0, p .1 .0, p .1 .1, u .first, u .laid) (runs (u .accepted) trace n (u .few) (u .fits))
+        rw (w, z, take-all mostTraceBytes trace trace-short, functions-are, u .first, u .laid) (runs (u .accepted) trace n (u .few) (u .fits))
 
     -- the needed cells are cleared, those beyond keep their content
-    module _ (T₀ : List ℕ) (room : lent ≤ length T₀) {T : List ℕ} (z : T ≡ cleared (places .total) T₀) where
+    module _ (T₀ : List ℕ) (room : lent ≤ length T₀) {T : List ℕ} (c : T ≡ cleared (places .total) T₀) where
       abbrev Rest : List ℕ
       Rest = drop (places .total) T₀
 
       zeros : T ≡ replicate (cells Bits (u .program)) 0 ++ Rest
       zeros =
-          z
+          c
           ∙ cleared-within (places .total) T₀ (omega (arith, u .total, u .room))
           ∙ ap (λ (k : ℕ). replicate k 0 ++ Rest) (u .total)
 

@@ -1,4 +1,5 @@
 // What a settled evaluation decides, and what one pass of it stores.
+use decoding::functions::WORDS;
 use fixpoint::passes;
 use fixpoint::setup;
 use fixpoint::setup::Cells;
@@ -26,10 +27,19 @@ pub fn decide(
     ensures verdict { λ r. ⌜ r ≡ verdictOf (programOf (now (program .entry))) (samples (now (trace .entry)) n) ⌝ }
     ensures cells { λ _. ⌜ now (table .exit) ≡ decidedTable (programOf (now (program .entry))) (samples (now (trace .entry)) n) (now (table .entry)) ⌝ }
 {
-    let words = setup::words_of(program, &outline.params, trace);
+    let mut words = [0u64; WORDS];
+    decoding::program::fill(
+        program,
+        &outline.params,
+        &places.functions,
+        outline.functions,
+        n,
+        &mut words,
+    );
     passes::clear(table, places.total as usize);
     let passes = passes::run(
         &words,
+        &setup::trace_of(trace),
         &places.functions,
         table,
         n,
@@ -55,9 +65,18 @@ pub fn pass_once(
     ensures stored { λ r. ⌜ r ≡ passStores (programOf (now (program .entry))) (samples (now (trace .entry)) n) (now (table .entry)) ⌝ }
     ensures cells { λ _. ⌜ now (table .exit) ≡ pass (programOf (now (program .entry))) (samples (now (trace .entry)) n) (now (table .entry)) ⌝ }
 {
-    let words = setup::words_of(program, &outline.params, trace);
+    let mut words = [0u64; WORDS];
+    decoding::program::fill(
+        program,
+        &outline.params,
+        &places.functions,
+        outline.functions,
+        n,
+        &mut words,
+    );
     passes::pass(
         &words,
+        &setup::trace_of(trace),
         &places.functions,
         table,
         n,

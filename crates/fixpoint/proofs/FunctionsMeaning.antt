@@ -1,5 +1,4 @@
 -- What stands in the array of functions:
---   params-at, kinds-at                       what stands in the outline of a program for each function
 --   radix-by-bit, size-means                   how many values a kind has, how many configurations a function has
 --   total-means                               the cells of all
 --   first-means, kinds-mean, count-means      the first cell, the kinds byte, the count of each function
@@ -8,7 +7,7 @@ use mathlib.Core.Logic.{⊎-elim}
 use mathlib.Core.Bool.{Bool, true, false, cond}
 use mathlib.Core.List.{List, [], _∷_}
 use mathlib.Core.Option.{some}
-use Prim.Native.Nat.{ℕ, zero, suc, _+_, _<_, _≤_}
+use Prim.Native.Nat.{ℕ, zero, suc, _+_, _%_, _<_, _≤_}
 use native.Mathlib.Nat.{eq-or-lt-of-le}
 use native.Mathlib.Numerals.{add-one}
 use native.Mathlib.Omega.{arith}
@@ -20,24 +19,14 @@ use Rattle.semantics.specs.Numbering.{kindSize, size, cells}
 use Rattle.rule.specs.Form.{mostFunctions, mostParams, kindsByte, Accepted}
 use Rattle.rule.specs.Reading.{kindAt, kindsFrom}
 use Rattle.rule.specs.Outline.{outlineOf}
-use Rattle.rule.proofs.Padded.{getD-padded}
 use Rattle.rule.proofs.KindBytes.{kinds-back}
 use Rattle.rule.proofs.Expressions.{place-below}
-use Rattle.rule.proofs.OutlineMeaning.{there, getD-mapped}
+use Rattle.rule.proofs.OutlineMeaning.{there, params-at, kinds-at}
 use Rattle.rule.proofs.WalkMeaning.{at-most-four}
 use Rattle.rule.specs.Walk.{atMostFour}
 use Rattle.codes.specs.{radixOf}
 use Rattle.fixpoint.specs.Mirror.{sizeFrom, firstOf, kindsOf, countOf, totalBefore, functionsUpto}
-use Rattle.fixpoint.proofs.Sets.{firstCell}
-
-module _ (P : Program) (g : ℕ) (f : Function) (e : getElem? P g ≡ some f) where
-  pub params-at : getD (outlineOf P .params) g 0 ≡ length (f .params)
-  unfolding outlineOf
-  params-at = getD-padded mostFunctions 0 _ g ∙ getD-mapped (λ (x : Function). length (x .params)) P g f 0 e
-
-  pub kinds-at : getD (outlineOf P .kinds) g 0 ≡ kindsByte (f .params) (f .result)
-  unfolding outlineOf
-  kinds-at = getD-padded mostFunctions 0 _ g ∙ getD-mapped (λ (x : Function). kindsByte (x .params) (x .result)) P g f 0 e
+use Rattle.evaluator.proofs.Sets.{firstCell}
 
 -- ---- Sizes
 
@@ -162,4 +151,9 @@ module _ {bytes : List ℕ} {P : Program} (a : Accepted bytes P) (t : Trace) whe
     kinds-mean = entry-of .kind ∙ kinds-at P g f e
 
     pub count-means : countOf (functionsUpto (outlineOf P .kinds) (outlineOf P .params) (length t) (length P)) g ≡ length (f .params)
-    count-means = ap atMostFour (entry-of .count ∙ params-at P g f e) ∙ at-most-four (length (f .params)) (small g f e)
+    count-means =
+        let few = small g f e in
+        let byte : length (f .params) % 256 ≡ length (f .params) = omega arith in
+        ap (λ (k : ℕ). atMostFour (k % 256)) (entry-of .count ∙ params-at P g f e)
+        ∙ ap atMostFour byte
+        ∙ at-most-four (length (f .params)) few

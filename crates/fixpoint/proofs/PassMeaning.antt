@@ -6,17 +6,16 @@
 --   function-means, function-counts     the visits of a function's configurations
 --   pass-means, counts-mean             a pass
 use Prim.Native.Nat.{ℕ, zero, suc, _+_, _≤_, _<_}
-use native.Mathlib.Nat.{add-zero, add-suc}
+use native.Mathlib.Nat.{add-zero, add-suc, zero-add, mod-eq-of-lt}
 use native.Mathlib.Omega.{arith}
-use mathlib.Core.Path.{_≡_, refl}
+use mathlib.Core.Path.{_≡_, refl, ap}
 use mathlib.Core.Bool.{cond}
 use mathlib.Core.List.{List, [], _∷_, _++_}
 use mathlib.Core.Option.{Option, none, some}
 use lib.Dec.{eqb}
-use lib.ListN.{length, getElem?, getD, set, drop}
+use lib.ListN.{length, getElem?, getD, set, drop, length-append, length-drop}
 use lib.Seq.{take-length}
 use borrow.Author.Tests.{ne-eqb}
-use Rattle.trace.specs.{bitOf}
 use Rattle.semantics.specs.declared.Outcome.{Outcome}
 use Rattle.semantics.specs.Language.{Function, Program, Trace, WellKinded}
 use Rattle.semantics.specs.Numbering.{size, valuesAt, cells}
@@ -25,19 +24,20 @@ use Rattle.semantics.specs.Bodies.{bodyOutcome}
 use Rattle.semantics.specs.Visits.{Table, lookup, heldAt, ifUndecided, stored, storedIn, oneIf, visit, visits, stores, pass, passStores}
 use Rattle.semantics.proofs.Cells.{code-not-zero}
 use Rattle.semantics.proofs.Numbering.{values-in}
-use Rattle.rule.specs.Form.{mostDepth, encodeExpr, depth}
+use Rattle.rule.specs.Form.{mostBytes, mostDepth, encodeExpr, depth}
 use Rattle.rule.proofs.Expressions.{place-below}
+use Rattle.rule.proofs.FunctionBytes.{expr-bytes}
 use Rattle.rule.proofs.OutlineMeaning.{there}
-use Rattle.codes.specs.{decidedCode}
-use Rattle.fixpoint.specs.Mirror.{Setup, kindsOf, sizeOf, envAt, filledAt, storedAt, visitAt, oneUnless, functionVisits}
-use Rattle.fixpoint.specs.Mirror.{functionStores, Ready, passVisits, passCounts}
-use Rattle.fixpoint.proofs.Sets.{firstCell, EnvOf, Sets}
-use Rattle.fixpoint.proofs.CellMeaning.{first-within, config-first, result-bit, decided-means}
-use Rattle.fixpoint.proofs.EvalMeaning.{eval-means}
+use Rattle.fixpoint.specs.Mirror.{Setup, firstOf, bodyAt, sizeOf, envAt, filledAt, storedAt, visitAt, oneUnless, visitsFrom}
+use Rattle.fixpoint.specs.Mirror.{storesFrom, Ready, passVisits, passCounts}
+use Rattle.evaluator.proofs.Sets.{firstCell, EnvOf, Sets}
+use Rattle.evaluator.proofs.CellMeaning.{first-within, config-first, held-means}
+use Rattle.evaluator.proofs.EvalMeaning.{eval-means}
 use Rattle.fixpoint.proofs.PassWays.{ready-fits}
 
 pub record Runs (P : Program) (t : Trace) (bytes : List ℕ) (S : Setup) (starts : List ℕ) : Type 0 where
-  pub sets : Sets P t bytes S
+  pub sets : Sets P t bytes (S .words) (S .trace)
+  pub first : (g : ℕ) (f : Function) → getElem? P g ≡ some f → firstOf (S .functions) g ≡ firstCell t P g
   pub kinds : WellKinded P
   pub sizes : (g : ℕ) (f : Function) → getElem? P g ≡ some f → sizeOf (S .functions) (length t) g ≡ size t (f .params)
   pub envs : (g : ℕ) (f : Function) (i : ℕ) → getElem? P g ≡ some f → i < size t (f .params)
@@ -76,58 +76,61 @@ module _ (P : Program) (t : Trace) (bytes : List ℕ) (S : Setup) (starts : List
   ready g f e len long = record {
     below = omega (arith, place-below P g f e, r .sets .functions);
     samples = r .sets .samples;
-    within = rw (r .sets .first g f e, r .sizes g f e) (omega (arith, first-within t P g f e));
+    within = rw (r .first g f e, r .sizes g f e) (omega (arith, first-within t P g f e));
   }
 
   -- ---- The visit of a configuration
 
-  decided-number : (g : ℕ) (f : Function) → getElem? P g ≡ some f → (cell : ℕ)
-      → decidedCode (bitOf 4 (kindsOf (S .functions) g)) (length t) cell ≡ contentOf (outcomeIn t (f .result) cell)
-  decided-number g f e cell =
-      rw (r .sets .kinds g f e, result-bit (f .params) (f .result) (r .sets .params g f e)) (decided-means t (f .result) cell)
+  -- the word of a function's body
+  abbrev body : ℕ → ℕ
+  body g = bodyAt (S .words) (getD starts g 0)
 
   module _ (T : Table) (g : ℕ) (f : Function) (i : ℕ) (e : getElem? P g ≡ some f) (h : i < size t (f .params)) where
-    filled-means : filledAt S (length t) g (getD starts g 0) T i ≡ contentOf (bodyOutcome t (lookup P t T) (valuesAt t (f .params) i) (f .body))
+    filled-means : filledAt S (length t) g (body g) T i ≡ contentOf (bodyOutcome t (lookup P t T) (valuesAt t (f .params) i) (f .body))
     unfolding filledAt
     filled-means =
-        let body = r .bodies g f e in
-        eval-means P t bytes S (r .sets) T (f .params) (valuesAt t (f .params) i) (values-in t (f .params) i h) (r .sets .params g f e)
-        (envAt (S .functions) (length t) g i) (r .envs g f i e h) (f .body) (f .result) mostDepth (getD starts g 0) (body .0)
-        (r .kinds g f e) (r .deep g f e) (body .1)
+        let start = getD starts g 0 in
+        let here = r .bodies g f e in
+        let inside : start < mostBytes =
+        omega (arith, ap length (here .1), length-drop start bytes, length-append (encodeExpr (f .body)) (here .0), expr-bytes (f .body), r .sets .short) in
+        rw (mod-eq-of-lt inside)
+        (eval-means P t bytes (S .words) (S .trace) (r .sets) T (f .params) (valuesAt t (f .params) i) (values-in t (f .params) i h) (r .sets .params g f e)
+        (envAt (S .functions) (length t) g i) (r .envs g f i e h) (f .body) (f .result) mostDepth start (here .0)
+        (r .kinds g f e) (r .deep g f e) (here .1))
 
-    pub stored-means : storedAt S (length t) g (getD starts g 0) T i ≡ contentOf (stored P t T (firstCell t P g + i))
+    pub stored-means : storedAt S (length t) g (body g) T i ≡ contentOf (stored P t T (firstCell t P g + i))
     unfolding storedAt stored heldAt
     stored-means =
         let cell = getD T (firstCell t P g + i) 0 in
-        rw (r .sets .first g f e, config-first t P g f i e h, decided-number g f e cell, filled-means)
+        rw (r .first g f e, config-first t P g f i e h, held-means (r .sets) g f e cell, filled-means)
         (stored-number (outcomeIn t (f .result) cell) (bodyOutcome t (lookup P t T) (valuesAt t (f .params) i) (f .body)))
 
-    pub visit-means : visitAt S (length t) g (getD starts g 0) T i ≡ visit P t (firstCell t P g + i) T
+    pub visit-means : visitAt S (length t) g (body g) T i ≡ visit P t (firstCell t P g + i) T
     unfolding visitAt visit
     visit-means =
         let c = firstCell t P g + i in
-        rw (stored-means, r .sets .first g f e) (put-number T c (stored P t T c))
+        rw (stored-means, r .first g f e) (put-number T c (stored P t T c))
 
   -- ---- The visits of a function's configurations
 
   module _ (T : Table) (g : ℕ) (f : Function) (e : getElem? P g ≡ some f) where
     pub function-means : (i : ℕ) → i ≤ size t (f .params)
-        → functionVisits S (length t) g (getD starts g 0) i (visits P t (firstCell t P g) T) ≡ visits P t (firstCell t P g + i) T
-    unfolding functionVisits visits
+        → visitsFrom S (length t) g (body g) 0 i (visits P t (firstCell t P g) T) ≡ visits P t (firstCell t P g + i) T
+    unfolding visitsFrom visits
     function-means zero h = rw (add-zero (firstCell t P g))
     function-means (suc i) h =
         let c = firstCell t P g + i in
-        rw (add-suc (firstCell t P g) i, function-means i (omega arith)) (visit-means (visits P t c T) g f i e h)
+        rw (add-suc (firstCell t P g) i, zero-add i, function-means i (omega arith)) (visit-means (visits P t c T) g f i e h)
 
     pub function-counts : (i : ℕ) → i ≤ size t (f .params)
-        → stores P t (firstCell t P g) T + functionStores S (length t) g (getD starts g 0) i (visits P t (firstCell t P g) T)
+        → stores P t (firstCell t P g) T + storesFrom S (length t) g (body g) 0 i (visits P t (firstCell t P g) T)
         ≡ stores P t (firstCell t P g + i) T
-    unfolding functionStores stores
+    unfolding storesFrom stores
     function-counts zero h = rw (add-zero (firstCell t P g)) (omega arith)
     function-counts (suc i) h =
         let c = firstCell t P g + i in
         let W = visits P t c T in
-        rw (add-suc (firstCell t P g) i, function-means i (omega arith), stored-means W g f i e h, one-number (stored P t W c))
+        rw (add-suc (firstCell t P g) i, zero-add i, function-means i (omega arith), stored-means W g f i e h, one-number (stored P t W c))
         (omega (arith, function-counts i (omega arith)))
 
   -- ---- A pass

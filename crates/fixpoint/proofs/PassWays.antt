@@ -1,71 +1,66 @@
 -- Laws of passes, one for each way through the code:
---   env-filled                     the values of a configuration
---   fill-none, fill-stored         the body of an undecided configuration
---   visit-kept, visit-open         a decided cell, an undecided one
---   Visited                        some configurations of a function have been visited
---   ready-fits, fits-ready         the test that a function's cells lie within the table
---   Covering                       some functions have been visited, or passed over
---   Running                        some passes have been made, and all stored
---   cleared-whole, cleared-within  the first cells made undecided
+--   put-none, put-some                       what a body's outcome leaves in its cell
+--   Visited                                  some configurations of a function have been visited
+--   visited-kept, visited-open               one more: a decided cell, an undecided one
+--   visited-row                              a row more
+--   stores-le                                how many outcomes are stored at most
+--   ready-fits, fits-ready                   the test that a function's cells lie within the table
+--   Covering                                 some functions have been visited, or passed over
+--   Running                                  some passes have been made, and all stored
+--   cleared-whole, cleared-within            the first cells made undecided
 use mathlib.Core.Path.{_≡_, refl, sym, ap, _∙_}
 use mathlib.Core.Bool.{Bool, true, false, _&&_, cond}
-use mathlib.Core.List.{List, [], _∷_, _++_}
+use mathlib.Core.List.{List, _++_}
 use Prim.Native.Nat.{ℕ, zero, suc, _+_, _-_, _*_, _<_, _≤_, min}
-use native.Mathlib.Nat.{min-eq-left, min-eq-right}
+use native.Mathlib.Nat.{add-zero, add-suc, zero-add, min-eq-left, min-eq-right}
 use native.Mathlib.Numerals.{add-one}
 use native.Mathlib.Omega.{arith}
 use lib.Dec.{ltb, leb, eqb}
 use lib.Seq.{drop-length}
 use lib.ListN.{length, getD, set, drop, replicate, length-set, drop-of-length-le}
 use borrow.Author.Tests.{ltb-true, le-ltb, leb-true, leb-false, lt-ltb, le-leb, lt-leb, eq-eqb, ne-eqb}
-use Rattle.trace.specs.{mostSamples, bitOf}
+use Rattle.trace.specs.{mostSamples}
 use Rattle.rule.specs.Form.{mostFunctions, mostDepth}
-use Rattle.codes.specs.{decidedCode}
-use Rattle.fixpoint.specs.Mirror.{mostConfigurations, Setup, firstOf, kindsOf, countOf, valuesInto, evalAt, sizeOf}
-use Rattle.fixpoint.specs.Mirror.{envAt, filledAt, putAt, filled, storedAt, visitAt, oneUnless, functionVisits, functionStores, Ready}
+use Rattle.decoding.specs.Words.{heldIn}
+use Rattle.fixpoint.specs.Mirror.{mostConfigurations, Setup, firstOf, bodyAt, sizeOf, envAt, filledAt, putIn, storedAt, visitAt, oneUnless}
+use Rattle.evaluator.specs.{functionAt, evalWord}
+use Rattle.fixpoint.specs.Mirror.{visitsFrom, storesFrom, Ready}
 use Rattle.fixpoint.specs.Mirror.{fits, passVisits, passCounts, tableFrom, passesRun, cleared}
 
-pub env-filled : (functions : List ℕ) (n g index : ℕ) {count : ℕ} {env : List ℕ} → count ≡ countOf functions g
-    → env ≡ valuesInto (kindsOf functions g) n count index (0 ∷ 0 ∷ 0 ∷ 0 ∷ n ∷ []) → env ≡ envAt functions n g index
-env-filled functions n g index e q = q ∙ ap (λ (c : ℕ). valuesInto (kindsOf functions g) n c index (0 ∷ 0 ∷ 0 ∷ 0 ∷ n ∷ [])) e
+-- ---- The visit of a configuration
 
-module _ (S : Setup) (n g start : ℕ) (T : List ℕ) (i : ℕ) where
-  pub fill-none : {env : List ℕ} {c : ℕ} → env ≡ envAt (S .functions) n g i → c ≡ evalAt S T env mostDepth start → c ≡ 0
-      → (T ≡ filled S n g start T i) × (0 ≡ oneUnless (filledAt S n g start T i))
-  unfolding filled filledAt
-  fill-none e q z =
-      let zero′ : evalAt S T (envAt (S .functions) n g i) mostDepth start ≡ 0 = ap (λ (v : List ℕ). evalAt S T v mostDepth start) (sym e)
-      ∙ sym q ∙ z in
-      (simp (eq-eqb _ _ zero′), simp (eq-eqb _ _ zero′))
+module _ (S : Setup) (n g body : ℕ) (T : List ℕ) (i : ℕ) where
+  abbrev heldHere : ℕ
+  heldHere = heldIn (functionAt (S .words) g) (getD T (firstOf (S .functions) g + i) 0)
 
-  pub fill-stored : {env : List ℕ} {c : ℕ} → env ≡ envAt (S .functions) n g i → c ≡ evalAt S T env mostDepth start → (c ≡ 0 → ⊥)
-      → (set T (firstOf (S .functions) g + i) c ≡ filled S n g start T i) × (1 ≡ oneUnless (filledAt S n g start T i))
-  unfolding filled filledAt
-  fill-stored e q z =
-      let same : evalAt S T (envAt (S .functions) n g i) mostDepth start ≡ _ = ap (λ (v : List ℕ). evalAt S T v mostDepth start) (sym e) ∙ sym q in
-      (simp (same, ne-eqb _ _ z), simp (same, ne-eqb _ _ z))
-
-  abbrev decidedHere : ℕ
-  decidedHere = decidedCode (bitOf 4 (kindsOf (S .functions) g)) n (getD T (firstOf (S .functions) g + i) 0)
-
-  pub visit-kept : (decidedHere ≡ 0 → ⊥) → (visitAt S n g start T i ≡ T) × (oneUnless (storedAt S n g start T i) ≡ 0)
+  visit-kept : (heldHere ≡ 0 → ⊥) → (visitAt S n g body T i ≡ T) × (oneUnless (storedAt S n g body T i) ≡ 0)
   unfolding visitAt storedAt
   visit-kept h = (simp (ne-eqb _ _ h), simp (ne-eqb _ _ h))
 
-  pub visit-open : decidedHere ≡ 0 → (visitAt S n g start T i ≡ filled S n g start T i) × (storedAt S n g start T i ≡ filledAt S n g start T i)
-  unfolding visitAt storedAt filled
+  visit-open : heldHere ≡ 0
+      → (visitAt S n g body T i ≡ putIn T (firstOf (S .functions) g + i) (filledAt S n g body T i))
+      × (storedAt S n g body T i ≡ filledAt S n g body T i)
+  unfolding visitAt storedAt
   visit-open h = (simp (eq-eqb _ _ h), simp (eq-eqb _ _ h))
 
-  length-put : (c : ℕ) → length (putAt S g T i c) ≡ length T
+  length-put : (c : ℕ) → length (putIn T (firstOf (S .functions) g + i) c) ≡ length T
   length-put c = go (eqb c 0)
     where
       go : (b : Bool) → length (cond b T (set T (firstOf (S .functions) g + i) c)) ≡ length T
       go true = refl
       go false = length-set T (firstOf (S .functions) g + i) c
 
-  length-visit : length (visitAt S n g start T i) ≡ length T
+  length-visit : length (visitAt S n g body T i) ≡ length T
   unfolding visitAt
-  length-visit = length-put (storedAt S n g start T i)
+  length-visit = length-put (storedAt S n g body T i)
+
+-- what is stored, and how much that is
+module _ (T : List ℕ) (cell : ℕ) {c : ℕ} where
+  pub put-none : c ≡ 0 → (T ≡ putIn T cell c) × (0 ≡ oneUnless c)
+  put-none e = (simp (eq-eqb _ _ e), simp (eq-eqb _ _ e))
+
+  pub put-some : (c ≡ 0 → ⊥) → (set T cell c ≡ putIn T cell c) × (1 ≡ oneUnless c)
+  put-some z = (simp (ne-eqb _ _ z), simp (ne-eqb _ _ z))
 
 one-le : (c : ℕ) → oneUnless c ≤ 1
 one-le c = go (eqb c 0)
@@ -74,68 +69,101 @@ one-le c = go (eqb c 0)
     go true = omega arith
     go false = omega arith
 
--- ---- One function
+-- ---- Some configurations of a function
 
-module _ (S : Setup) (n g start : ℕ) (T : List ℕ) where
-  pub length-function : (i : ℕ) → length (functionVisits S n g start i T) ≡ length T
-  unfolding functionVisits
-  length-function zero = refl
-  length-function (suc i) = length-visit S n g start (functionVisits S n g start i T) i ∙ length-function i
+module _ (S : Setup) (n g body base : ℕ) (T : List ℕ) where
+  pub length-visits : (i : ℕ) → length (visitsFrom S n g body base i T) ≡ length T
+  unfolding visitsFrom
+  length-visits zero = refl
+  length-visits (suc i) = length-visit S n g body (visitsFrom S n g body base i T) (base + i) ∙ length-visits i
 
-  pub stores-le : (i : ℕ) → functionStores S n g start i T ≤ i
-  unfolding functionStores
+  pub stores-le : (i : ℕ) → storesFrom S n g body base i T ≤ i
+  unfolding storesFrom
   stores-le zero = omega arith
-  stores-le (suc i) = omega (arith, stores-le i, one-le (storedAt S n g start (functionVisits S n g start i T) i))
+  stores-le (suc i) = omega (arith, stores-le i, one-le (storedAt S n g body (visitsFrom S n g body base i T) (base + i)))
 
-  visits-more : (i : ℕ) → functionVisits S n g start (i + 1) T ≡ visitAt S n g start (functionVisits S n g start i T) i
-  unfolding functionVisits
+  visits-more : (i : ℕ) → visitsFrom S n g body base (i + 1) T ≡ visitAt S n g body (visitsFrom S n g body base i T) (base + i)
+  unfolding visitsFrom
   visits-more i = rw add-one
 
-  stores-more : (i : ℕ) → functionStores S n g start (i + 1) T ≡ functionStores S n g start i T + oneUnless
-      (storedAt S n g start (functionVisits S n g start i T) i)
-  unfolding functionStores
+  stores-more : (i : ℕ) → storesFrom S n g body base (i + 1) T ≡ storesFrom S n g body base i T + oneUnless
+      (storedAt S n g body (visitsFrom S n g body base i T) (base + i))
+  unfolding storesFrom
   stores-more i = rw add-one
 
--- the configurations before i have been visited
-pub record Visited (S : Setup) (n g start : ℕ) (T₀ T : List ℕ) (stored i : ℕ) : Type 0 where
-  pub cells : T ≡ functionVisits S n g start i T₀
-  pub count : stored ≡ functionStores S n g start i T₀
+-- those of a row come after those before it
+module _ (S : Setup) (n g body base : ℕ) (T : List ℕ) where
+  visits-row : (k : ℕ) → visitsFrom S n g body 0 (base + k) T ≡ visitsFrom S n g body base k (visitsFrom S n g body 0 base T)
+  unfolding visitsFrom
+  visits-row zero = rw (add-zero base)
+  visits-row (suc k) =
+      rw (add-suc base k, zero-add (base + k)) (ap (λ (l : List ℕ). visitAt S n g body l (base + k)) (visits-row k))
 
-pub visited-start : (S : Setup) (n g start : ℕ) (T : List ℕ) → Visited S n g start T T 0 0
-unfolding functionVisits functionStores
-visited-start S n g start T = record { cells = refl; count = refl }
+  stores-row : (k : ℕ) → storesFrom S n g body 0 (base + k) T
+      ≡ storesFrom S n g body 0 base T + storesFrom S n g body base k (visitsFrom S n g body 0 base T)
+  unfolding storesFrom
+  stores-row zero = rw (add-zero base) (omega arith)
+  stores-row (suc k) =
+      rw (add-suc base k, zero-add (base + k), visits-row k) (omega (arith, stores-row k))
 
-module _ {S : Setup} {n g start : ℕ} {T₀ T : List ℕ} {stored i : ℕ} (u : Visited S n g start T₀ T stored i) where
+-- from `base` on, i configurations have been visited
+pub record Visited (S : Setup) (n g body base : ℕ) (T₀ T : List ℕ) (stored i : ℕ) : Type 0 where
+  pub cells : T ≡ visitsFrom S n g body base i T₀
+  pub count : stored ≡ storesFrom S n g body base i T₀
+
+pub visited-start : (S : Setup) (n g body base : ℕ) (T : List ℕ) → Visited S n g body base T T 0 0
+unfolding visitsFrom storesFrom
+visited-start S n g body base T = record { cells = refl; count = refl }
+
+module _ {S : Setup} {n g body base : ℕ} {T₀ T : List ℕ} {stored i : ℕ} (u : Visited S n g body base T₀ T stored i) where
   pub visited-length : length T ≡ length T₀
-  visited-length = ap length (u .cells) ∙ length-function S n g start T₀ i
+  visited-length = ap length (u .cells) ∙ length-visits S n g body base T₀ i
 
   pub visited-few : stored ≤ i
-  visited-few = omega (arith, u .count, stores-le S n g start T₀ i)
+  visited-few = omega (arith, u .count, stores-le S n g body base T₀ i)
 
-  next : {T′ : List ℕ} {stored′ : ℕ} → T′ ≡ visitAt S n g start T i → stored′ ≡ stored + oneUnless (storedAt S n g start T i)
-      → Visited S n g start T₀ T′ stored′ (i + 1)
+  next : {T′ : List ℕ} {stored′ : ℕ} → T′ ≡ visitAt S n g body T (base + i) → stored′ ≡ stored + oneUnless (storedAt S n g body T (base + i))
+      → Visited S n g body base T₀ T′ stored′ (i + 1)
   next v s = record {
-    cells = v ∙ ap (λ (l : List ℕ). visitAt S n g start l i) (u .cells) ∙ sym (visits-more S n g start T₀ i);
-    count = s ∙ simp (u .count, u .cells) (sym (stores-more S n g start T₀ i));
+    cells = v ∙ ap (λ (l : List ℕ). visitAt S n g body l (base + i)) (u .cells) ∙ sym (visits-more S n g body base T₀ i);
+    count = s ∙ simp (u .count, u .cells) (sym (stores-more S n g body base T₀ i));
   }
 
-  pub visited-kept : {h : ℕ} → h ≡ decidedHere S n g start T i → (h ≡ 0 → ⊥) → Visited S n g start T₀ T stored (i + 1)
-  visited-kept e z =
-      let k = visit-kept S n g start T i (λ q. z (e ∙ q)) in
-      next (sym (k .0)) (omega (arith, k .1))
+  -- the cell that the code comes to
+  module _ {cell h : ℕ} (here : cell ≡ firstOf (S .functions) g + (base + i)) (e : h ≡ heldIn (functionAt (S .words) g) (getD T cell 0)) where
+    held-same : h ≡ heldHere S n g body T (base + i)
+    held-same = e ∙ ap (λ (c : ℕ). heldIn (functionAt (S .words) g) (getD T c 0)) here
 
-  pub visited-open : {h one : ℕ} {T′ : List ℕ} → h ≡ decidedHere S n g start T i → h ≡ 0 → T′ ≡ filled S n g start T i
-      → one ≡ oneUnless (filledAt S n g start T i)
-      → Visited S n g start T₀ T′ (stored + one) (i + 1)
-  visited-open e z f s =
-      let k = visit-open S n g start T i (sym e ∙ z) in
-      next (f ∙ sym (k .0)) (ap (λ (x : ℕ). stored + x) (s ∙ ap oneUnless (sym (k .1))))
+    pub visited-kept : (h ≡ 0 → ⊥) → Visited S n g body base T₀ T stored (i + 1)
+    visited-kept z =
+        let k = visit-kept S n g body T (base + i) (λ q. z (held-same ∙ q)) in
+        next (sym (k .0)) (omega (arith, k .1))
 
-  pub visited-end : {last size : ℕ} → i ≤ last → last ≤ i → last ≡ size → (T ≡ functionVisits S n g start size T₀)
-      × (stored ≡ functionStores S n g start size T₀)
+    pub visited-open : {env : List ℕ} {one : ℕ} {T′ : List ℕ} → h ≡ 0 → env ≡ envAt (S .functions) n g (base + i)
+        → T′ ≡ putIn T cell (evalWord (S .words) (S .trace) T env mostDepth body)
+        → one ≡ oneUnless (evalWord (S .words) (S .trace) T env mostDepth body)
+        → Visited S n g body base T₀ T′ (stored + one) (i + 1)
+    unfolding filledAt
+    visited-open {env} z v f s =
+        let k = visit-open S n g body T (base + i) (sym held-same ∙ z) in
+        let same : evalWord (S .words) (S .trace) T env mostDepth body ≡ filledAt S n g body T (base + i) =
+        ap (λ (m : List ℕ). evalWord (S .words) (S .trace) T m mostDepth body) v in
+        next (f ∙ rw (here, same) (sym (k .0))) (ap (λ (x : ℕ). stored + x) (s ∙ ap oneUnless (same ∙ sym (k .1))))
+
+  pub visited-end : {last size : ℕ} → i ≤ last → last ≤ i → last ≡ size → (T ≡ visitsFrom S n g body base size T₀)
+      × (stored ≡ storesFrom S n g body base size T₀)
   visited-end {last} {size} h k e =
       let all : i ≡ size = omega (arith, h, k, e) in
       (rw all at (u .cells), rw all at (u .count))
+
+-- one row more
+pub visited-row : {S : Setup} {n g body : ℕ} {T₀ T T′ : List ℕ} {stored base more : ℕ} (width : ℕ) → Visited S n g body 0 T₀ T stored base
+    → T′ ≡ visitsFrom S n g body base width T → more ≡ storesFrom S n g body base width T
+    → Visited S n g body 0 T₀ T′ (stored + more) (base + width)
+visited-row {S} {n} {g} {body} {T₀} {base = base} width u v s = record {
+  cells = v ∙ ap (visitsFrom S n g body base width) (u .cells) ∙ sym (visits-row S n g body base T₀ width);
+  count = simp (s, u .count, u .cells) (sym (stores-row S n g body base T₀ width));
+}
 
 -- ---- Cells within the table
 
@@ -201,13 +229,13 @@ covering-start S n starts T = record { cells = refl; count = refl; few = omega a
 
 module _ (S : Setup) (n : ℕ) (starts T : List ℕ) (g : ℕ) where
   pass-more : fits (S .functions) n g (length T) ≡ true
-      → passVisits S n starts (g + 1) T ≡ functionVisits S n g (getD starts g 0) (sizeOf (S .functions) n g) (passVisits S n starts g T)
+      → passVisits S n starts (g + 1) T ≡ visitsFrom S n g (bodyAt (S .words) (getD starts g 0)) 0 (sizeOf (S .functions) n g) (passVisits S n starts g T)
   unfolding passVisits
   pass-more e = rw (add-one, e)
 
   counts-more : fits (S .functions) n g (length T) ≡ true
       → passCounts S n starts (g + 1) T
-      ≡ passCounts S n starts g T + functionStores S n g (getD starts g 0) (sizeOf (S .functions) n g) (passVisits S n starts g T)
+      ≡ passCounts S n starts g T + storesFrom S n g (bodyAt (S .words) (getD starts g 0)) 0 (sizeOf (S .functions) n g) (passVisits S n starts g T)
   unfolding passCounts
   counts-more e = rw (add-one, e)
 
@@ -221,14 +249,14 @@ module _ (S : Setup) (n : ℕ) (starts T : List ℕ) (g : ℕ) where
 
 module _ {S : Setup} {n : ℕ} {starts T₀ T : List ℕ} {stored g : ℕ} (u : Covering S n starts T₀ T stored g) where
   pub covering-more : fits (S .functions) n g (length T₀) ≡ true → {T′ : List ℕ} {more : ℕ}
-      → T′ ≡ functionVisits S n g (getD starts g 0) (sizeOf (S .functions) n g) T
-      → (more ≡ functionStores S n g (getD starts g 0) (sizeOf (S .functions) n g) T) × (more ≤ mostConfigurations)
+      → T′ ≡ visitsFrom S n g (bodyAt (S .words) (getD starts g 0)) 0 (sizeOf (S .functions) n g) T
+      → (more ≡ storesFrom S n g (bodyAt (S .words) (getD starts g 0)) 0 (sizeOf (S .functions) n g) T) × (more ≤ mostConfigurations)
       → Covering S n starts T₀ T′ (stored + more) (g + 1)
   covering-more e v s = record {
-    cells = v ∙ ap (functionVisits S n g (getD starts g 0) (sizeOf (S .functions) n g)) (u .cells) ∙ sym (pass-more S n starts T₀ g e);
+    cells = v ∙ ap (visitsFrom S n g (bodyAt (S .words) (getD starts g 0)) 0 (sizeOf (S .functions) n g)) (u .cells) ∙ sym (pass-more S n starts T₀ g e);
     count = simp (s .0, u .count, u .cells) (sym (counts-more S n starts T₀ g e));
     few = omega (arith, u .few, s .1);
-    same = ap length v ∙ length-function S n g (getD starts g 0) T (sizeOf (S .functions) n g) ∙ u .same;
+    same = ap length v ∙ length-visits S n g (bodyAt (S .words) (getD starts g 0)) 0 T (sizeOf (S .functions) n g) ∙ u .same;
   }
 
   pub covering-over : fits (S .functions) n g (length T₀) ≡ false → Covering S n starts T₀ T stored (g + 1)
@@ -253,10 +281,10 @@ length-pass S n starts T (suc g) = go (fits (S .functions) n g (length T)) (leng
     before = passVisits S n starts g T
 
     after : List ℕ
-    after = functionVisits S n g (getD starts g 0) (sizeOf (S .functions) n g) before
+    after = visitsFrom S n g (bodyAt (S .words) (getD starts g 0)) 0 (sizeOf (S .functions) n g) before
 
     go : (b : Bool) → length before ≡ length T → length (cond b after before) ≡ length T
-    go true e = length-function S n g (getD starts g 0) before (sizeOf (S .functions) n g) ∙ e
+    go true e = length-visits S n g (bodyAt (S .words) (getD starts g 0)) 0 before (sizeOf (S .functions) n g) ∙ e
     go false e = e
 
 -- ---- Passes

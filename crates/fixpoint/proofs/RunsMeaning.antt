@@ -4,18 +4,17 @@ use Prim.Native.Nat.{ℕ, _≤_}
 use mathlib.Core.Path.{_≡_}
 use mathlib.Core.List.{List, _++_}
 use mathlib.Core.Option.{some}
-use lib.ListN.{length, getElem?, getD, drop, replicate}
+use lib.ListN.{getElem?, getD, drop}
 use Rattle.trace.specs.{mostSamples, samples}
 use Rattle.semantics.specs.Language.{Function, Program}
 use Rattle.semantics.specs.Numbering.{cells, mostCells}
-use Rattle.rule.specs.Form.{mostFunctions, mostBytes, encodeExpr, padded, Accepted}
+use Rattle.rule.specs.Form.{mostFunctions, encodeExpr, Accepted}
 use Rattle.rule.specs.Outline.{startsFrom, outlineOf}
 use Rattle.rule.proofs.Padded.{getD-padded}
 use Rattle.rule.proofs.Places.{body-at}
-use Rattle.fixpoint.specs.Mirror.{setup, mostTraceBytes, endsDown, functionsUpto}
 use Rattle.fixpoint.proofs.FunctionsMeaning.{size-means}
 use Rattle.fixpoint.proofs.ValuesMeaning.{env-means}
-use Rattle.fixpoint.proofs.SetupMeaning.{sets}
+use Rattle.fixpoint.proofs.SetupMeaning.{arraysOf, first-is, kinds-are, count-is, sets}
 use Rattle.fixpoint.proofs.PassMeaning.{Runs}
 
 module _ {bytes : List ℕ} {P : Program} (a : Accepted bytes P) where
@@ -26,18 +25,21 @@ module _ {bytes : List ℕ} {P : Program} (a : Accepted bytes P) where
       let b = body-at bytes P a g f e in
       (b .0, rw (getD-padded mostFunctions 0 (startsFrom 1 P) g) (b .1))
 
-  pub runs : (trace : List ℕ) (n : ℕ) → n ≤ mostSamples → cells (samples trace n) P ≤ mostCells → Runs P (samples trace n) bytes
-      (setup (padded mostBytes 0 bytes) (endsDown (padded mostBytes 0 bytes) (outlineOf P .params) (length bytes) 0 (replicate mostBytes 0))
-      (functionsUpto (outlineOf P .kinds) (outlineOf P .params) n (length P)) (padded mostTraceBytes 0 trace))
-      (outlineOf P .starts)
+  pub runs : (trace : List ℕ) (n : ℕ) → n ≤ mostSamples → cells (samples trace n) P ≤ mostCells
+      → Runs P (samples trace n) bytes (arraysOf bytes P trace n) (outlineOf P .starts)
   runs trace n few fits =
       let s = sets a trace n few fits in
       let t = samples trace n in
       record {
         sets = s;
+        first = λ g f e. first-is a trace n few fits g f e;
         kinds = a .kinds;
-        sizes = λ g f e. rw (s .kinds g f e, s .count g f e) (size-means t (f .params) (f .result) (a .fits g f e .params));
-        envs = λ g f i e h. rw (s .kinds g f e, s .count g f e) (env-means t (f .params) (f .result) (a .fits g f e .params) i h);
+        sizes = λ g f e.
+            rw (kinds-are a trace n few fits g f e, count-is a trace n few fits g f e)
+            (size-means t (f .params) (f .result) (a .fits g f e .params));
+        envs = λ g f i e h.
+            rw (kinds-are a trace n few fits g f e, count-is a trace n few fits g f e)
+            (env-means t (f .params) (f .result) (a .fits g f e .params) (s .samples) i h);
         bodies = starts-at;
         deep = λ g f e. a .fits g f e .deep;
       }

@@ -1,101 +1,28 @@
 -- Laws of setting up, for each loop of the code its start, a turn, its end:
---   operands-start, operands-more, operands-whole      the operands of a node, passed one after the other
---   Ended, ended-start, ended-more, ended-whole        the ends, from the last place down
 --   radix-bound, radix-pos                             how many values a kind has
 --   Product, size-start, size-more, size-fits,
 --   size-whole                                         the product of the sizes of parameters, from the last down
---   digit-bound, values-more, values-whole             the values of parameters, from the last down
---   few-bound, Listed, listed-start, listed-more,
+--   values-more, values-one, values-none               the values of parameters, from the last down
+--   Listed, listed-start, listed-more,
 --   cells-listed, functions-of, total-of               the array of functions and the total
+--   Traced, traced-start, traced-more, traced-whole    the bytes of the trace
 use mathlib.Core.Path.{_≡_, refl, sym, ap, _∙_}
-use mathlib.Core.Bool.{Bool, true, false, cond}
-use mathlib.Core.List.{List, map}
+use mathlib.Core.Bool.{Bool, true, false}
+use mathlib.Core.List.{List}
 use Prim.Native.Nat.{ℕ, zero, suc, _+_, _-_, _*_, _/_, _%_, _^_, _<_, _≤_, min}
-use native.Mathlib.Nat.{mod-lt, mul-le-mul, pow-succ', pow-le-pow-right, min-eq-left}
+use native.Mathlib.Nat.{mul-le-mul, pow-succ', pow-le-pow-right, min-eq-left, min-eq-right}
 use native.Mathlib.Numerals.{add-one, sub-one}
 use native.Mathlib.Omega.{arith}
-use lib.Dec.{ltb}
-use lib.ListN.{getD, set, take, replicate}
-use borrow.Author.Tests.{ltb-true}
+use lib.Dec.{leb}
+use lib.ListN.{length, getD, set, take, replicate}
+use lib.Seq.{take-all, take-suc, length-take-le}
+use borrow.Author.Tests.{leb-true, leb-false}
 use Rattle.trace.specs.{mostSamples, bitOf}
-use Rattle.rule.specs.declared.Node.{Node}
-use Rattle.rule.specs.Form.{mostFunctions, mostParams, mostBytes}
-use Rattle.rule.specs.Reading.{nodeOf}
+use Rattle.rule.specs.Form.{mostFunctions, mostParams, padded}
 use Rattle.rule.specs.Walk.{atMostFour}
-use Rattle.codes.specs.{radixOf, valueCode}
-use Rattle.fixpoint.specs.Mirror.{mostValues, mostConfigurations, bytesIn, endsIn, traceIn, sizeFrom, valuesInto}
-use Rattle.fixpoint.specs.Mirror.{endAt, endsAfter, operandsOf, endBy, endsDown, withEnds, totalBefore, functionsUpto, functionsOf, totalOf}
-use Rattle.fixpoint.proofs.WordsPut.{bytes-kept, ends-set, trace-kept, words-split}
-
--- ---- Ends
-
-pub operands-start : (code params ends : List ℕ) (at : ℕ) {node : Node} {left : ℕ} → node ≡ nodeOf (getD code at 0) → left ≡ operandsOf params node
-    → endsAfter ends left (at + 1) ≡ endBy code params ends at
-unfolding endBy
-operands-start code params ends at n l = simp (l, n)
-
-pub operands-more : (ends : List ℕ) (left place : ℕ) {next end : ℕ} → endsAfter ends left place ≡ end → 0 < left → next ≡ endAt ends place
-    → endsAfter ends (left - 1) next ≡ end
-unfolding endsAfter
-operands-more ends zero place e h n = absurd (omega arith)
-operands-more ends (suc left) place e h n = simp (sub-one, n) e
-
-pub operands-whole : (ends : List ℕ) (left place : ℕ) {end : ℕ} → endsAfter ends left place ≡ end → left ≤ 0 → place ≡ end
-unfolding endsAfter
-operands-whole ends zero place e h = e
-operands-whole ends (suc left) place e h = absurd (omega arith)
-
-module _ (code params z : List ℕ) (len : ℕ) where
-  ends-start : z ≡ endsDown code params (len - len) len z
-  unfolding endsDown
-  ends-start = let e : len - len ≡ 0 = omega arith in rw e
-
-  ends-more : (at : ℕ) {ends : List ℕ} {end : ℕ} → ends ≡ endsDown code params (len - at) at z → 0 < at → at ≤ len
-      → end ≡ endBy code params ends (at - 1)
-      → set ends (at - 1) end ≡ endsDown code params (len - (at - 1)) (at - 1) z
-  unfolding endsDown
-  ends-more zero e h l n = absurd (omega arith)
-  ends-more (suc at) e h l n =
-      let k : len - at ≡ suc (len - suc at) = omega arith in
-      simp (sub-one, k, add-one, n, e)
-
-  ends-whole : (at : ℕ) {ends : List ℕ} → ends ≡ endsDown code params (len - at) at z → at ≤ 0 → ends ≡ endsDown code params len 0 z
-  ends-whole zero e h = let k : len - 0 ≡ len = omega arith in rw k at e
-  ends-whole (suc at) e h = absurd (omega arith)
-
-module _ (params m : List ℕ) (len : ℕ) where
-  -- the ends at places at and up are written, and nothing else
-  pub record Ended (words : List ℕ) (at : ℕ) : Type 0 where
-    pub below : at ≤ len
-    pub front : take mostBytes words ≡ take mostBytes m
-    pub ends : endsIn words ≡ endsDown (bytesIn m) params (len - at) at (endsIn m)
-    pub trace : traceIn words ≡ traceIn m
-
-  pub ended-start : Ended m len
-  ended-start = record { below = omega arith; front = refl; ends = ends-start (bytesIn m) params (endsIn m) len; trace = refl }
-
-  ended-bytes : (words : List ℕ) (at : ℕ) → Ended words at → bytesIn words ≡ bytesIn m
-  unfolding bytesIn
-  ended-bytes words at u = ap (map (λ (w : ℕ). w % 256)) (u .front)
-
-  pub ended-more : (words : List ℕ) (at : ℕ) {end : ℕ} → Ended words at → 0 < at → len ≤ mostBytes
-      → end ≡ endBy (bytesIn words) params (endsIn words) (at - 1)
-      → Ended (set words (mostBytes + (at - 1)) end) (at - 1)
-  ended-more words at {end} u h few n =
-      let inside : at - 1 < mostBytes = omega (arith, u .below) in
-      record {
-        below = omega (arith, u .below);
-        front = bytes-kept words (at - 1) end ∙ u .front;
-        ends =
-            ends-set words (at - 1) end inside
-            ∙ ends-more (bytesIn m) params (endsIn m) len at (u .ends) h (u .below) (rw (ended-bytes words at u) at n);
-        trace = trace-kept words (at - 1) end inside ∙ u .trace;
-      }
-
-  pub ended-whole : (words : List ℕ) (at : ℕ) → Ended words at → at ≤ 0 → words ≡ withEnds params len m
-  unfolding withEnds
-  ended-whole words at u h =
-      words-split words ∙ rw (u .front, ends-whole (bytesIn m) params (endsIn m) len at (u .ends) h, u .trace)
+use Rattle.rule.proofs.Padded.{set-padded}
+use Rattle.codes.specs.{radixOf}
+use Rattle.fixpoint.specs.Mirror.{mostValues, mostConfigurations, valueNumber, sizeFrom, valuesInto, totalBefore, functionsUpto, functionsOf, totalOf}
 
 -- ---- Sizes
 
@@ -143,29 +70,28 @@ module _ (kinds n count : ℕ) where
 
 -- ---- Values
 
-pub digit-bound : (list : Bool) (n x : ℕ) {radix : ℕ} → radix ≡ radixOf list n → n ≤ mostSamples → x % radix < mostValues
-digit-bound list n x r h = rw r (omega (arith, mod-lt x (radix-pos list n), radix-bound list n h))
+module _ (kinds n : ℕ) where
+  pub values-more : (i rest : ℕ) (env : List ℕ) {list : Bool} {radix value : ℕ} {all : List ℕ} → all ≡ valuesInto kinds n i rest env → 1 < i
+      → list ≡ bitOf (i - 1) kinds → radix ≡ radixOf list n → value ≡ valueNumber list (rest % radix)
+      → all ≡ valuesInto kinds n (i - 1) (rest / radix) (set env (i - 1) value)
+  unfolding valuesInto
+  values-more zero rest env e h b r v = absurd (omega arith)
+  values-more (suc zero) rest env e h b r v = absurd (omega arith)
+  values-more (suc (suc i)) rest env e h b r v = simp (v, r, b, sub-one) e
 
-pub values-more : (kinds n i rest : ℕ) (env : List ℕ) {list : Bool} {radix value : ℕ} {all : List ℕ} → all ≡ valuesInto kinds n i rest env → 0 < i
-    → list ≡ bitOf (i - 1) kinds → radix ≡ radixOf list n → value ≡ valueCode list (rest % radix)
-    → all ≡ valuesInto kinds n (i - 1) (rest / radix) (set env (i - 1) value)
-unfolding valuesInto
-values-more kinds n zero rest env e h b r v = absurd (omega arith)
-values-more kinds n (suc i) rest env e h b r v = simp (v, r, b, sub-one) e
+  pub values-one : (i rest : ℕ) (env : List ℕ) {list : Bool} {value : ℕ} {all : List ℕ} → all ≡ valuesInto kinds n i rest env → i ≤ 1 → 0 < i
+      → list ≡ bitOf 0 kinds → value ≡ valueNumber list rest → set env 0 value ≡ all
+  unfolding valuesInto
+  values-one zero rest env e l h b v = absurd (omega arith)
+  values-one (suc zero) rest env e l h b v = simp (v, b) (sym e)
+  values-one (suc (suc i)) rest env e l h b v = absurd (omega arith)
 
-pub values-whole : (kinds n i rest : ℕ) (env : List ℕ) {all : List ℕ} → all ≡ valuesInto kinds n i rest env → i ≤ 0 → env ≡ all
-unfolding valuesInto
-values-whole kinds n zero rest env e h = sym e
-values-whole kinds n (suc i) rest env e h = absurd (omega arith)
+  pub values-none : (i rest : ℕ) (env : List ℕ) {all : List ℕ} → all ≡ valuesInto kinds n i rest env → i ≤ 0 → env ≡ all
+  unfolding valuesInto
+  values-none zero rest env e h = sym e
+  values-none (suc i) rest env e h = absurd (omega arith)
 
 -- ---- Functions
-
-pub few-bound : (count : ℕ) → atMostFour count ≤ mostParams
-few-bound count = go (ltb count 5) refl
-  where
-    go : (t : Bool) → ltb count 5 ≡ t → cond t count 4 ≤ 4
-    go true e = omega (arith, ltb-true count 5 e)
-    go false e = omega arith
 
 module _ (kinds params : List ℕ) (n : ℕ) where
   -- the functions before g
@@ -179,7 +105,7 @@ module _ (kinds params : List ℕ) (n : ℕ) where
   listed-start = record { array = refl; sum = refl; bound = omega arith }
 
   pub listed-more : (g : ℕ) {functions : List ℕ} {total k p count size : ℕ} → Listed functions total g → k ≡ getD kinds g 0 → p ≡ getD params g 0
-      → count ≡ atMostFour p → (size ≡ sizeFrom k n 0 count) × (size ≤ mostConfigurations)
+      → count ≡ atMostFour (getD params g 0) → (size ≡ sizeFrom k n 0 count) × (size ≤ mostConfigurations)
       → Listed (set (set (set functions g total) (32 + g) k) (64 + g) p) (total + size) (g + 1)
   unfolding functionsUpto totalBefore
   listed-more g u ek ep c s =
@@ -211,3 +137,43 @@ module _ (kinds params : List ℕ) (n count : ℕ) where
   pub total-of : n ≤ mostSamples → count ≤ mostFunctions → totalOf kinds params n count ≡ totalBefore kinds params n count
   unfolding totalOf
   total-of h k = rw (min-eq-left h, min-eq-left k)
+
+-- ---- The trace
+
+-- the first N of a list, by how many they are
+take-min : (N : ℕ) (l : List ℕ) → take (min N (length l)) l ≡ take N l
+take-min N l = go (leb N (length l)) refl
+  where
+    go : (b : Bool) → leb N (length l) ≡ b → take (min N (length l)) l ≡ take N l
+    go true e = ap (λ (k : ℕ). take k l) (min-eq-left (leb-true N (length l) e))
+    go false e =
+        let h : length l ≤ N = omega (arith, leb-false N (length l) e) in
+        ap (λ (k : ℕ). take k l) (min-eq-right h) ∙ take-all (length l) l (omega arith) ∙ sym (take-all N l h)
+
+module _ (N : ℕ) (trace : List ℕ) where
+  -- the first i bytes stand with zeros after them
+  pub record Traced (bytes : List ℕ) (i : ℕ) : Type 0 where
+    pub below : i ≤ min N (length trace)
+    pub whole : bytes ≡ padded N 0 (take i trace)
+
+  pub traced-start : Traced (replicate N 0) 0
+  unfolding padded
+  traced-start = record { below = omega arith; whole = let e : N - 0 ≡ N = omega arith in rw e }
+
+  pub traced-more : (i : ℕ) {bytes : List ℕ} → Traced bytes i → i < min N (length trace) → Traced (set bytes i (getD trace i 0)) (i + 1)
+  traced-more i u h =
+      let long : length (take i trace) ≡ i = length-take-le i trace (omega arith) in
+      let room : length (take i trace) < N = omega arith in
+      record {
+        below = omega arith;
+        whole =
+            rw (u .whole)
+            (ap (λ (k : ℕ). set (padded N 0 (take i trace)) k (getD trace i 0)) (sym long)
+            ∙ set-padded N 0 (take i trace) (getD trace i 0) room
+            ∙ ap (padded N 0) (sym (take-suc trace i 0 (omega arith)) ∙ ap (λ (k : ℕ). take k trace) (sym (add-one i))));
+      }
+
+  pub traced-whole : (i : ℕ) {bytes : List ℕ} → Traced bytes i → min N (length trace) ≤ i → bytes ≡ padded N 0 (take N trace)
+  traced-whole i u h =
+      let all : i ≡ min N (length trace) = omega (arith, u .below) in
+      u .whole ∙ ap (padded N 0) (ap (λ (k : ℕ). take k trace) all ∙ take-min N trace)

@@ -12,38 +12,37 @@ use native.Mathlib.Omega.{arith}
 use lib.Arith.{digits-div, digits-mod, mod-mul}
 use lib.ListN.{length, getElem?, getD, set, drop, length-set}
 use lib.Seq.{append-snoc, getD-set-other}
-use Rattle.trace.specs.{bitOf}
-use Rattle.semantics.specs.Language.{Kind, truth, list, Trace, Value, given}
+use Rattle.trace.specs.{bitOf, mostSamples}
+use Rattle.semantics.specs.Language.{Kind, truth, list, isList, Trace, Value, given}
 use Rattle.semantics.specs.Numbering.{kindSize, valueAt, size, valuesAt}
 use Rattle.semantics.specs.Cells.{codeOf}
 use Rattle.semantics.proofs.Numbering.{size-pos, kind-pos}
-use Rattle.rule.specs.Form.{mostParams, isList, kindsByte}
+use Rattle.rule.specs.Form.{mostParams, kindsByte}
 use Rattle.rule.specs.Reading.{kindAt, kindsFrom}
 use Rattle.rule.proofs.KindBytes.{kinds-back}
 use Rattle.rule.proofs.WalkMeaning.{kind-bit}
 use Rattle.rule.proofs.Scanning.{map-snoc}
-use Rattle.codes.specs.{valueCode}
-use Rattle.fixpoint.specs.Mirror.{valuesInto}
-use Rattle.fixpoint.proofs.Sets.{EnvOf}
+use Rattle.fixpoint.specs.Mirror.{valueNumber, valuesInto}
+use Rattle.evaluator.proofs.Sets.{EnvOf}
 use Rattle.fixpoint.proofs.FunctionsMeaning.{radix-by-bit}
+use Rattle.fixpoint.proofs.Rows.{values-above}
 
 -- ---- One value
 
-abbrev valueNumber : Value → ℕ
-valueNumber v = codeOf (given v)
+abbrev numberOf : Value → ℕ
+numberOf v = codeOf (given v)
 
-value-of : (t : Trace) (κ : Kind) (d : ℕ) → d < kindSize t κ → valueCode (isList κ) d ≡ valueNumber (valueAt κ d)
-value-of t truth zero h = refl
-value-of t truth (suc zero) h = refl
-value-of t truth (suc (suc d)) h = absurd (omega arith)
-value-of t list d h = omega arith
+value-of : (t : Trace) → length t ≤ mostSamples → (κ : Kind) (d : ℕ) → d < kindSize t κ → valueNumber (isList κ) d ≡ numberOf (valueAt κ d)
+value-of t short truth zero h = refl
+value-of t short truth (suc zero) h = refl
+value-of t short truth (suc (suc d)) h = absurd (omega arith)
+value-of t short list d h = omega arith
 
--- the last digit of a configuration, as the code takes it
-value-means : (t : Trace) (k i x : ℕ)
-    → valueCode (bitOf i k) (x % kindSize t (kindAt k i)) ≡ valueNumber (valueAt (kindAt k i) (x % kindSize t (kindAt k i)))
-value-means t k i x =
-    let d = x % kindSize t (kindAt k i) in
-    ap (λ (b : Bool). valueCode b d) (sym (kind-bit k i)) ∙ value-of t (kindAt k i) d (mod-lt x (kind-pos t (kindAt k i)))
+-- a digit of a configuration, as the code takes it
+value-means : (t : Trace) → length t ≤ mostSamples → (k i d : ℕ) → d < kindSize t (kindAt k i)
+    → valueNumber (bitOf i k) d ≡ numberOf (valueAt (kindAt k i) d)
+value-means t short k i d h =
+    ap (λ (b : Bool). valueNumber b d) (sym (kind-bit k i)) ∙ value-of t short (kindAt k i) d h
 
 -- ---- The last parameter apart
 
@@ -103,42 +102,58 @@ module _ (t : Trace) (k : ℕ) where
         both = ap (λ (l : List Kind). valuesAt t l x) all ∙ values-snoc t κ κs x b;
       }
 
-  none : (x : ℕ) (env : List ℕ) → env ≡ map valueNumber (valuesAt t (kindsFrom k 0 zero) x) ++ env
+  none : (x : ℕ) (env : List ℕ) → env ≡ map numberOf (valuesAt t (kindsFrom k 0 zero) x) ++ env
   unfolding kindsFrom
   none x env = refl
 
-  values-are : (c x : ℕ) (env : List ℕ) → c ≤ length env → x < size t (kindsFrom k 0 c)
-      → valuesInto k (length t) c x env ≡ map valueNumber (valuesAt t (kindsFrom k 0 c) x) ++ drop c env
-  unfolding valuesInto
-  values-are zero x env h b = none x env
-  values-are (suc c) x env h b =
-      let u = apart c x b in
-      let K = kindSize t (kindAt k c) in
-      let vs = valuesAt t (kindsFrom k 0 c) (x / K) in
-      let v = valueAt (kindAt k c) (x % K) in
-      let env′ = set env c (valueNumber v) in
-      rw (radix-by-bit t k c, value-means t k c x)
-      (values-are c (x / K) env′ (omega (arith, length-set env c (valueNumber v))) (u .first)
-      ∙ ap (λ (l : List ℕ). map valueNumber vs ++ l) (drop-written env c (valueNumber v) h)
-      ∙ sym (append-snoc (map valueNumber vs) (valueNumber v) (drop (suc c) env))
-      ∙ ap (λ (l : List ℕ). l ++ drop (suc c) env) (sym (map-snoc valueNumber vs v) ∙ sym (ap (map valueNumber) (u .both))))
+  -- parameter c from its digit, and those before it from what is left
+  module _ (short : length t ≤ mostSamples) where
+    value-last : (c x : ℕ) (env : List ℕ) → c < length env → x < size t (kindsFrom k 0 (suc c)) → {all : List ℕ}
+        → all ≡ map numberOf (valuesAt t (kindsFrom k 0 c) (x / kindSize t (kindAt k c)))
+        ++ drop c (set env c (valueNumber (bitOf c k) (x % kindSize t (kindAt k c))))
+        → all ≡ map numberOf (valuesAt t (kindsFrom k 0 (suc c)) x) ++ drop (suc c) env
+    value-last c x env h b q =
+        let u = apart c x b in
+        let K = kindSize t (kindAt k c) in
+        let vs = valuesAt t (kindsFrom k 0 c) (x / K) in
+        let v = valueAt (kindAt k c) (x % K) in
+        let same = value-means t short k c (x % K) (mod-lt x (kind-pos t (kindAt k c))) in
+        q
+        ∙ ap (λ (l : List ℕ). map numberOf vs ++ l) (drop-written env c _ h ∙ ap (λ (m : ℕ). m ∷ drop (suc c) env) same)
+        ∙ sym (append-snoc (map numberOf vs) (numberOf v) (drop (suc c) env))
+        ∙ ap (λ (l : List ℕ). l ++ drop (suc c) env) (sym (map-snoc numberOf vs v) ∙ sym (ap (map numberOf) (u .both)))
 
-  values-above : (c x : ℕ) (env : List ℕ) (j : ℕ) → c ≤ j → getD (valuesInto k (length t) c x env) j 0 ≡ getD env j 0
-  unfolding valuesInto
-  values-above zero x env j h = refl
-  values-above (suc c) x env j h = values-above c _ _ j (omega arith) ∙ getD-set-other env c j _ 0 (λ e. omega arith)
+    -- the first parameter's digit is what is left
+    first-left : (x : ℕ) → x < size t (kindsFrom k 0 1) → x % kindSize t (kindAt k 0) ≡ x
+    unfolding kindsFrom
+    first-left x b = mod-eq-of-lt (omega arith)
+
+    values-are : (c x : ℕ) (env : List ℕ) → c ≤ length env → x < size t (kindsFrom k 0 c)
+        → valuesInto k (length t) c x env ≡ map numberOf (valuesAt t (kindsFrom k 0 c) x) ++ drop c env
+    unfolding valuesInto
+    values-are zero x env h b = none x env
+    values-are (suc zero) x env h b =
+        value-last 0 x env h b
+        (ap (λ (d : ℕ). set env 0 (valueNumber (bitOf 0 k) d)) (sym (first-left x b)) ∙ none (x / kindSize t (kindAt k 0)) _)
+    values-are (suc (suc c)) x env h b =
+        let u = apart (suc c) x b in
+        let K = kindSize t (kindAt k (suc c)) in
+        value-last (suc c) x env h b
+        (rw (radix-by-bit t k (suc c))
+        (values-are (suc c) (x / K) (set env (suc c) (valueNumber (bitOf (suc c) k) (x % K)))
+        (omega (arith, length-set env (suc c) (valueNumber (bitOf (suc c) k) (x % K)))) (u .first)))
 
 -- the number of a value that is there
-number-there : (vs : List Value) (rest : List ℕ) (j : ℕ) (v : Value) → getElem? vs j ≡ some v → getD (map valueNumber vs ++ rest) j 0 ≡ valueNumber v
+number-there : (vs : List Value) (rest : List ℕ) (j : ℕ) (v : Value) → getElem? vs j ≡ some v → getD (map numberOf vs ++ rest) j 0 ≡ numberOf v
 number-there [] rest j v e = let no : _≡_ {A = ℕ} 0 1 = cc in absurd (omega arith)
-number-there (x ∷ vs) rest zero v e = let same : x ≡ v = cc in ap valueNumber same
+number-there (x ∷ vs) rest zero v e = let same : x ≡ v = cc in ap numberOf same
 number-there (x ∷ vs) rest (suc j) v e = number-there vs rest j v e
 
-pub env-means : (t : Trace) (κs : List Kind) (result : Kind) → length κs ≤ mostParams → (i : ℕ) → i < size t κs
+pub env-means : (t : Trace) (κs : List Kind) (result : Kind) → length κs ≤ mostParams → length t ≤ mostSamples → (i : ℕ) → i < size t κs
     → EnvOf (valuesInto (kindsByte κs result) (length t) (length κs) i (0 ∷ 0 ∷ 0 ∷ 0 ∷ length t ∷ [])) (valuesAt t κs i) (length t)
-env-means t κs result few i h =
+env-means t κs result few short i h =
     let k = kindsByte κs result in
     let env : List ℕ = 0 ∷ 0 ∷ 0 ∷ 0 ∷ length t ∷ [] in
     let same : kindsFrom k 0 (length κs) ≡ κs = kinds-back κs result few .0 in
-    let are = rw same at (values-are t k (length κs) i env (omega arith) (rw same h)) in
-    record { value = λ j v e. rw are (number-there (valuesAt t κs i) (drop (length κs) env) j v e); trace = values-above t k (length κs) i env 4 few }
+    let are = rw same at (values-are t k short (length κs) i env (omega arith) (rw same h)) in
+    record { value = λ j v e. rw are (number-there (valuesAt t κs i) (drop (length κs) env) j v e); trace = values-above k (length t) (length κs) i env 4 few }

@@ -1,19 +1,19 @@
--- A mirror of the code: outcomes as their numbers, expressions by their places in the program, functions by an array
--- of first cells, kinds bytes and counts. No reader need believe it: proofs/ shows that it comes to what the rules say.
-use Prim.Native.Nat.{ℕ, zero, suc, _+_, _*_, _/_, _%_, _<_, _≤_, min}
+-- A mirror of the code: outcomes as their numbers, bodies by their decoded words, functions by an array of first cells,
+-- kinds bytes and counts. No reader need believe it: proofs/ shows that it comes to what the rules say.
+use Prim.Native.Nat.{ℕ, zero, suc, _+_, _-_, _*_, _/_, _%_, _<_, _≤_, min}
+use mathlib.Core.Path.{_≡_}
 use mathlib.Core.Bool.{Bool, _&&_, cond}
-use mathlib.Core.List.{List, [], _∷_, _++_, map}
+use mathlib.Core.List.{List, [], _∷_, _++_}
 use lib.Dec.{ltb, leb, eqb}
-use lib.ListN.{length, getD, set, take, drop, replicate}
+use lib.ListN.{length, getD, set, drop, replicate}
 use Rattle.trace.specs.{mostSamples, bitOf}
 use Rattle.semantics.specs.Numbering.{mostCells}
-use Rattle.semantics.specs.Cells.{undecidedCode, falseCode, trueCode, suffixCode}
-use Rattle.codes.specs.{headOf, tailOf, nullOf, decidedCode, digitCode, radixOf, bound, nextIndex, valueCode, endsCall}
-use Rattle.rule.specs.declared.Node.{Node}
-use Rattle.rule.specs.declared.Node.the-variants as node
-use Rattle.rule.specs.Form.{mostFunctions, mostBytes, mostDepth, padded}
-use Rattle.rule.specs.Reading.{nodeOf}
+use Rattle.semantics.specs.Cells.{undecidedCode}
+use Rattle.codes.specs.{radixOf, valueCode, lowestCode}
+use Rattle.rule.specs.Form.{mostFunctions, mostBytes, mostDepth}
 use Rattle.rule.specs.Walk.{atMostFour}
+use Rattle.decoding.specs.Words.{heldIn}
+use Rattle.evaluator.specs.{digitBound, functionAt, evalWord}
 
 -- ---- Configurations
 
@@ -30,50 +30,49 @@ unfoldable pub sizeFrom : ℕ → ℕ → ℕ → ℕ → ℕ
 sizeFrom kinds n i zero = 1
 sizeFrom kinds n i (suc left) = radixOf (bitOf i kinds) n * sizeFrom kinds n (i + 1) left
 
+-- the number of a value of a kind, by its digit
+abbrev pub valueNumber : Bool → ℕ → ℕ
+valueNumber list digit = valueCode list (digit % digitBound) % digitBound
+
 -- the numbers of the values of parameters 0 to i - 1 in configuration `index`, put into env
 unfoldable pub valuesInto : ℕ → ℕ → ℕ → ℕ → List ℕ → List ℕ
 valuesInto kinds n zero index env = env
-valuesInto kinds n (suc i) index env =
-    let radix = radixOf (bitOf i kinds) n in
-    valuesInto kinds n i (index / radix) (set env i (valueCode (bitOf i kinds) (index % radix)))
+valuesInto kinds n (suc zero) index env = set env 0 (valueNumber (bitOf 0 kinds) index)
+valuesInto kinds n (suc (suc i)) index env =
+    let radix = radixOf (bitOf (suc i) kinds) n in
+    valuesInto kinds n (suc i) (index / radix) (set env (suc i) (valueNumber (bitOf (suc i) kinds) (index % radix)))
 
--- ---- Expressions
+-- A row: the configurations in which only the last parameter differs. Where there is no parameter, a row has one
+-- configuration, and parameter 0 stands for the last with the one number 0.
 
--- what an evaluation does not change
+abbrev pub rowWidth : ℕ → ℕ → ℕ → ℕ
+rowWidth kinds n zero = 1
+rowWidth kinds n (suc c) = radixOf (bitOf c kinds) n
+
+-- the number of the last parameter's first value
+abbrev pub rowLowest : ℕ → ℕ → ℕ
+rowLowest kinds zero = 0
+rowLowest kinds (suc c) = lowestCode (bitOf c kinds)
+
+-- the values of so many parameters stepped as digits: the last goes up by one, with a carry to the left where it has
+-- reached its kind's last value
+unfoldable pub stepped : ℕ → ℕ → ℕ → List ℕ → List ℕ
+stepped kinds n zero env = env
+stepped kinds n (suc i) env =
+    let list = bitOf i kinds in
+    cond (ltb (getD env i 0 + 1) (lowestCode list + radixOf list n)) (set env i (getD env i 0 + 1))
+    (stepped kinds n i (set env i (lowestCode list)))
+
+-- ---- The arrays of an evaluation
+
+-- what an evaluation does not change: words, functions and the bytes of the trace
 pub record Setup : Type 0 where
-  pub code : List ℕ
-  pub ends : List ℕ
+  pub words : List ℕ
   pub functions : List ℕ
   pub trace : List ℕ
 
-abbrev pub setup : List ℕ → List ℕ → List ℕ → List ℕ → Setup
-setup code ends functions trace = record { code = code; ends = ends; functions = functions; trace = trace }
-
--- The words of an evaluation: the program's bytes, as many ends of expressions, the trace's bytes. Of a word that has a
--- byte of the program, the code takes the low eight bits.
-
--- the most bytes of a trace
-abbrev pub mostTraceBytes : ℕ
-mostTraceBytes = 512
-
--- where the trace begins among the words, and how many they are
-abbrev pub traceFrom : ℕ
-traceFrom = mostBytes + mostBytes
-
-abbrev pub mostWords : ℕ
-mostWords = traceFrom + mostTraceBytes
-
-unfoldable pub bytesIn : List ℕ → List ℕ
-bytesIn words = map (λ w. w % 256) (take mostBytes words)
-
-unfoldable pub endsIn : List ℕ → List ℕ
-endsIn words = take mostBytes (drop mostBytes words)
-
-unfoldable pub traceIn : List ℕ → List ℕ
-traceIn words = drop traceFrom words
-
-abbrev pub setupIn : List ℕ → List ℕ → Setup
-setupIn words functions = setup (bytesIn words) (endsIn words) functions (traceIn words)
+abbrev pub setup : List ℕ → List ℕ → List ℕ → Setup
+setup words functions trace = record { words = words; functions = functions; trace = trace }
 
 abbrev pub firstOf : List ℕ → ℕ → ℕ
 firstOf functions g = getD functions g 0
@@ -82,100 +81,11 @@ abbrev pub kindsOf : List ℕ → ℕ → ℕ
 kindsOf functions g = getD functions (32 + g) 0
 
 abbrev pub countOf : List ℕ → ℕ → ℕ
-countOf functions g = atMostFour (getD functions (64 + g) 0)
+countOf functions g = atMostFour (getD functions (64 + g) 0 % 256)
 
-unfoldable pub paramAt : List ℕ → ℕ → ℕ
-paramAt env i = cond (ltb i 4) (getD env i 0) undecidedCode
-
-unfoldable pub endAt : List ℕ → ℕ → ℕ
-endAt ends at = cond (ltb at mostBytes) (getD ends at 0) mostBytes
-
-unfoldable pub lookupAt : List ℕ → List ℕ → ℕ → ℕ → ℕ → ℕ
-lookupAt functions table n g index =
-    cond (ltb (firstOf functions g) bound)
-    (cond (ltb index bound) (decidedCode (bitOf 4 (kindsOf functions g)) n (getD table (firstOf functions g + index) 0)) undecidedCode)
-    undecidedCode
-
--- so many arguments, from argument i on, and then the look-up
-unfoldable pub argsAt : Setup → List ℕ → ℕ → (ℕ → ℕ) → ℕ → ℕ → ℕ → ℕ → ℕ → ℕ
-argsAt S table n eval g zero i index at = lookupAt (S .functions) table n g index
-argsAt S table n eval g (suc left) i index at =
-    cond (endsCall (eval at)) (eval at)
-    (argsAt S table n eval g left (i + 1)
-    (nextIndex index (radixOf (bitOf i (kindsOf (S .functions) g)) n) (digitCode (eval at)))
-    (endAt (S .ends) at))
-
-abbrev pub callBy : Setup → List ℕ → ℕ → (ℕ → ℕ) → ℕ → ℕ → ℕ
-callBy S table n eval at g = cond (leb 32 g) undecidedCode (argsAt S table n eval g (countOf (S .functions) g) 0 0 at)
-
-abbrev pub branchBy : Setup → (ℕ → ℕ) → ℕ → ℕ
-branchBy S eval at =
-    cond (eqb (eval at) trueCode) (eval (endAt (S .ends) at))
-    (cond (eqb (eval at) falseCode) (eval (endAt (S .ends) (endAt (S .ends) at))) (eval at))
-
-abbrev pub nodeBy : Setup → List ℕ → List ℕ → (ℕ → ℕ) → ℕ → Node → ℕ
-nodeBy S table env eval at node.False = falseCode
-nodeBy S table env eval at node.True = trueCode
-nodeBy S table env eval at node.Empty = suffixCode
-nodeBy S table env eval at (node.Param i) = paramAt env i
-nodeBy S table env eval at node.Head = headOf (S .trace) (getD env 4 0) (eval at)
-nodeBy S table env eval at node.Tail = tailOf (eval at)
-nodeBy S table env eval at node.Null = nullOf (eval at)
-nodeBy S table env eval at node.If = branchBy S eval at
-nodeBy S table env eval at node.Cons = undecidedCode
-nodeBy S table env eval at (node.Call g) = callBy S table (getD env 4 0) eval at g
-nodeBy S table env eval at node.Unknown = undecidedCode
-
--- the number of the outcome of the expression at a place, with so much depth left; undecided where there is none
-unfoldable pub evalAt : Setup → List ℕ → List ℕ → ℕ → ℕ → ℕ
-evalAt S table env zero at = undecidedCode
-evalAt S table env (suc d) at =
-    cond (leb mostBytes at) undecidedCode (nodeBy S table env (evalAt S table env d) (at + 1) (nodeOf (getD (S .code) at 0)))
-
-unfoldable pub branchAt : Setup → List ℕ → List ℕ → ℕ → ℕ → ℕ
-branchAt S table env d at = branchBy S (evalAt S table env d) at
-
-unfoldable pub callAt : Setup → List ℕ → List ℕ → ℕ → ℕ → ℕ → ℕ
-callAt S table env d at g = callBy S table (getD env 4 0) (evalAt S table env d) at g
-
--- ---- Expression ends
-
--- the end of so many expressions, one after the other
-unfoldable pub endsAfter : List ℕ → ℕ → ℕ → ℕ
-endsAfter ends zero at = at
-endsAfter ends (suc n) at = endsAfter ends n (endAt ends at)
-
--- how many arguments a call of function g has
-abbrev pub argumentsOf : List ℕ → ℕ → ℕ
-argumentsOf params g = cond (ltb g 32) (atMostFour (getD params g 0)) 0
-
--- how many operands a node has; `params` are the counts of the functions
-abbrev pub operandsOf : List ℕ → Node → ℕ
-operandsOf params node.False = 0
-operandsOf params node.True = 0
-operandsOf params node.Empty = 0
-operandsOf params (node.Param i) = 0
-operandsOf params node.Head = 1
-operandsOf params node.Tail = 1
-operandsOf params node.Null = 1
-operandsOf params node.If = 3
-operandsOf params node.Cons = 0
-operandsOf params (node.Call g) = argumentsOf params g
-operandsOf params node.Unknown = 0
-
--- the end of the expression at a place, by the ends after it
-unfoldable pub endBy : List ℕ → List ℕ → List ℕ → ℕ → ℕ
-endBy code params ends at = endsAfter ends (operandsOf params (nodeOf (getD code at 0))) (at + 1)
-
--- the ends at places at and up, worked out backwards from the last place
-unfoldable pub endsDown : List ℕ → List ℕ → ℕ → ℕ → List ℕ → List ℕ
-endsDown code params zero at ends = ends
-endsDown code params (suc k) at ends = let later = endsDown code params k (at + 1) ends in set later at (endBy code params later at)
-
--- words with the ends of the expressions that start at the first so many places written, and nothing else
-unfoldable pub withEnds : List ℕ → ℕ → List ℕ → List ℕ
-withEnds params len words =
-    take mostBytes words ++ (endsDown (bytesIn words) params len 0 (endsIn words) ++ traceIn words)
+-- the word of the body that starts at a place
+abbrev pub bodyAt : List ℕ → ℕ → ℕ
+bodyAt words start = getD words (start % mostBytes) 0
 
 -- ---- Cells and passes
 
@@ -188,43 +98,52 @@ envAt functions n g index = valuesInto (kindsOf functions g) n (countOf function
 
 -- the number of the outcome of a configuration's body, with calls looked up in the table
 unfoldable pub filledAt : Setup → ℕ → ℕ → ℕ → List ℕ → ℕ → ℕ
-filledAt S n g start table index = evalAt S table (envAt (S .functions) n g index) mostDepth start
+filledAt S n g body table index = evalWord (S .words) (S .trace) table (envAt (S .functions) n g index) mostDepth body
 
--- the table with a number stored in a configuration's cell, unless it is that of undecided
-abbrev pub putAt : Setup → ℕ → List ℕ → ℕ → ℕ → List ℕ
-putAt S g table index c = cond (eqb c undecidedCode) table (set table (firstOf (S .functions) g + index) c)
-
-unfoldable pub filled : Setup → ℕ → ℕ → ℕ → List ℕ → ℕ → List ℕ
-filled S n g start table index = putAt S g table index (filledAt S n g start table index)
+-- a table with a number stored in a cell, unless it is that of undecided
+abbrev pub putIn : List ℕ → ℕ → ℕ → List ℕ
+putIn table cell c = cond (eqb c undecidedCode) table (set table cell c)
 
 -- what the visit of a configuration stores; undecided for nothing
 unfoldable pub storedAt : Setup → ℕ → ℕ → ℕ → List ℕ → ℕ → ℕ
-storedAt S n g start table index =
-    cond (eqb (decidedCode (bitOf 4 (kindsOf (S .functions) g)) n (getD table (firstOf (S .functions) g + index) 0)) undecidedCode)
-    (filledAt S n g start table index)
+storedAt S n g body table index =
+    cond (eqb (heldIn (functionAt (S .words) g) (getD table (firstOf (S .functions) g + index) 0)) undecidedCode)
+    (filledAt S n g body table index)
     undecidedCode
 
 unfoldable pub visitAt : Setup → ℕ → ℕ → ℕ → List ℕ → ℕ → List ℕ
-visitAt S n g start table index = putAt S g table index (storedAt S n g start table index)
+visitAt S n g body table index = putIn table (firstOf (S .functions) g + index) (storedAt S n g body table index)
 
 abbrev pub oneUnless : ℕ → ℕ
 oneUnless c = cond (eqb c undecidedCode) 0 1
 
--- the first so many configurations of a function
-unfoldable pub functionVisits : Setup → ℕ → ℕ → ℕ → ℕ → List ℕ → List ℕ
-functionVisits S n g start zero table = table
-functionVisits S n g start (suc i) table = visitAt S n g start (functionVisits S n g start i table) i
+-- so many configurations of a function, from one on
+unfoldable pub visitsFrom : Setup → ℕ → ℕ → ℕ → ℕ → ℕ → List ℕ → List ℕ
+visitsFrom S n g body base zero table = table
+visitsFrom S n g body base (suc i) table = visitAt S n g body (visitsFrom S n g body base i table) (base + i)
 
-unfoldable pub functionStores : Setup → ℕ → ℕ → ℕ → ℕ → List ℕ → ℕ
-functionStores S n g start zero table = 0
-functionStores S n g start (suc i) table =
-    functionStores S n g start i table + oneUnless (storedAt S n g start (functionVisits S n g start i table) i)
+unfoldable pub storesFrom : Setup → ℕ → ℕ → ℕ → ℕ → ℕ → List ℕ → ℕ
+storesFrom S n g body base zero table = 0
+storesFrom S n g body base (suc i) table =
+    storesFrom S n g body base i table + oneUnless (storedAt S n g body (visitsFrom S n g body base i table) (base + i))
 
 -- a function whose cells lie within a table of so many
 pub record Ready (functions : List ℕ) (n g len : ℕ) : Type 0 where
   pub below : g < mostFunctions
   pub samples : n ≤ mostSamples
   pub within : firstOf functions g + sizeOf functions n g ≤ len
+
+-- a row of such a function, from configuration `base` on, with the values of its other parameters in env: with the last
+-- parameter's number put in they are those of each configuration of the row
+pub record RowReady (functions : List ℕ) (n g len base : ℕ) (env : List ℕ) : Type 0 where
+  pub ready : Ready functions n g len
+  pub inside : base + rowWidth (kindsOf functions g) n (countOf functions g) ≤ sizeOf functions n g
+  pub values : (d : ℕ) → d < rowWidth (kindsOf functions g) n (countOf functions g)
+      → set env (countOf functions g - 1) (rowLowest (kindsOf functions g) (countOf functions g) + d) ≡ envAt functions n g (base + d)
+
+-- two arrays of values that differ in the last parameter's place at most
+abbrev pub SameOthers : ℕ → List ℕ → List ℕ → Type 0
+SameOthers slot env env′ = (v : ℕ) → set env′ slot v ≡ set env slot v
 
 -- the test of that
 unfoldable pub fits : List ℕ → ℕ → ℕ → ℕ → Bool
@@ -236,14 +155,14 @@ unfoldable pub passVisits : Setup → ℕ → List ℕ → ℕ → List ℕ → 
 passVisits S n starts zero table = table
 passVisits S n starts (suc g) table =
     let before = passVisits S n starts g table in
-    cond (fits (S .functions) n g (length table)) (functionVisits S n g (getD starts g 0) (sizeOf (S .functions) n g) before) before
+    cond (fits (S .functions) n g (length table)) (visitsFrom S n g (bodyAt (S .words) (getD starts g 0)) 0 (sizeOf (S .functions) n g) before) before
 
 unfoldable pub passCounts : Setup → ℕ → List ℕ → ℕ → List ℕ → ℕ
 passCounts S n starts zero table = 0
 passCounts S n starts (suc g) table =
     passCounts S n starts g table
     + cond (fits (S .functions) n g (length table))
-    (functionStores S n g (getD starts g 0) (sizeOf (S .functions) n g) (passVisits S n starts g table))
+    (storesFrom S n g (bodyAt (S .words) (getD starts g 0)) 0 (sizeOf (S .functions) n g) (passVisits S n starts g table))
     0
 
 -- the most passes that a run makes: one more than the most cells
@@ -285,12 +204,3 @@ functionsOf kinds params n count = functionsUpto kinds params (min n mostSamples
 
 unfoldable pub totalOf : List ℕ → List ℕ → ℕ → ℕ → ℕ
 totalOf kinds params n count = totalBefore kinds params (min n mostSamples) (min count mostFunctions)
-
--- the words of an evaluation; the program's bytes beyond the longest program and the trace's beyond the longest trace
--- are passed over
-unfoldable pub wordsOf : List ℕ → List ℕ → List ℕ → List ℕ
-wordsOf program params trace =
-    let code = padded mostBytes 0 (take mostBytes program) in
-    code
-    ++ (endsDown code params (min mostBytes (length program)) 0 (replicate mostBytes 0)
-    ++ padded mostTraceBytes 0 (take mostTraceBytes trace))

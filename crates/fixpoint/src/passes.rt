@@ -1,31 +1,36 @@
 // Passes over the table.
 use crate::configurations;
-use crate::evaluator;
-use crate::setup::WORDS;
+use decoding::functions;
+use decoding::functions::FUNCTIONS;
+use decoding::functions::STRIDE;
+use decoding::functions::WORDS;
 ghost use mathlib.Core.Path.{_≡_};
-ghost use Prim.Native.Nat.{_<_, _≤_};
-ghost use lib.ListN.{length};
-ghost use Rattle.fixpoint.specs.Mirror.{setupIn, oneUnless, filledAt, filled, functionVisits, functionStores, sizeOf, Ready, fits};
-ghost use Rattle.fixpoint.specs.Mirror.{passVisits, passCounts, mostConfigurations, mostPasses, tableFrom, passesRun, cleared};
+ghost use Prim.Native.Nat.{_-_, _<_, _≤_};
+ghost use lib.ListN.{length, set};
+ghost use Rattle.rule.specs.Form.{mostDepth};
+ghost use Rattle.evaluator.specs.{evalWord};
+ghost use Rattle.fixpoint.specs.Mirror.{setup, kindsOf, countOf, sizeOf, rowWidth, Ready, RowReady, SameOthers, fits, bodyAt, putIn, oneUnless};
+ghost use Rattle.fixpoint.specs.Mirror.{visitsFrom, storesFrom, passVisits, passCounts, mostConfigurations, mostPasses, tableFrom, passesRun, cleared};
 
 // The most passes that a run makes: one more than the most cells.
 const MOST_PASSES: u32 = semantics::MOST_CELLS as u32 + 1;
 
 // Passes until one stores nothing, and answers how many they were.
 pub fn run(
-    words: &[u16; WORDS],
+    words: &[u64; WORDS],
+    trace: &[u8; codes::TRACE_BYTES],
     functions: &[u64; 96],
     table: &mut [u16],
     n: u16,
     starts: &[u16; 32],
     count: u8,
 ) -> u32
-    ensures cells { λ _. ⌜ now (table .exit) ≡ tableFrom (setupIn (now (words .entry)) (now (functions .entry))) n (now (starts .entry)) count mostPasses (now (table .entry)) ⌝ }
-    ensures passes { λ r. ⌜ r ≡ passesRun (setupIn (now (words .entry)) (now (functions .entry))) n (now (starts .entry)) count mostPasses (now (table .entry)) ⌝ }
+    ensures cells { λ _. ⌜ now (table .exit) ≡ tableFrom (setup (now (words .entry)) (now (functions .entry)) (now (trace .entry))) n (now (starts .entry)) count mostPasses (now (table .entry)) ⌝ }
+    ensures passes { λ r. ⌜ r ≡ passesRun (setup (now (words .entry)) (now (functions .entry)) (now (trace .entry))) n (now (starts .entry)) count mostPasses (now (table .entry)) ⌝ }
 {
     let mut done: u32 = 0;
     while done < MOST_PASSES {
-        let stored = pass(words, functions, table, n, starts, count);
+        let stored = pass(words, trace, functions, table, n, starts, count);
         done += 1;
         if stored == 0 {
             return done;
@@ -37,15 +42,16 @@ pub fn run(
 // One pass over the cells of so many functions: how many outcomes it stored. A function whose cells do not
 // lie within the table is passed over, and so is each from the thirty-third on.
 pub fn pass(
-    words: &[u16; WORDS],
+    words: &[u64; WORDS],
+    trace: &[u8; codes::TRACE_BYTES],
     functions: &[u64; 96],
     table: &mut [u16],
     n: u16,
     starts: &[u16; 32],
     count: u8,
 ) -> usize
-    ensures cells { λ _. ⌜ now (table .exit) ≡ passVisits (setupIn (now (words .entry)) (now (functions .entry))) n (now (starts .entry)) count (now (table .entry)) ⌝ }
-    ensures stored { λ r. ⌜ r ≡ passCounts (setupIn (now (words .entry)) (now (functions .entry))) n (now (starts .entry)) count (now (table .entry)) ⌝ }
+    ensures cells { λ _. ⌜ now (table .exit) ≡ passVisits (setup (now (words .entry)) (now (functions .entry)) (now (trace .entry))) n (now (starts .entry)) count (now (table .entry)) ⌝ }
+    ensures stored { λ r. ⌜ r ≡ passCounts (setup (now (words .entry)) (now (functions .entry)) (now (trace .entry))) n (now (starts .entry)) count (now (table .entry)) ⌝ }
 {
     let len = table.len();
     let last = count as usize;
@@ -53,7 +59,8 @@ pub fn pass(
     let mut g: usize = 0;
     while g < last {
         if lies_within(functions, n, g, len) {
-            stored += pass_function(words, functions, table, n, g, starts[g]);
+            let body = body_of(words, starts[g]);
+            stored += pass_function(words, trace, functions, table, n, g, body);
         }
         g += 1;
     }
@@ -75,67 +82,115 @@ fn lies_within(functions: &[u64; 96], n: u16, g: usize, len: usize) -> bool
     if cells < first {
         return false;
     }
-    let count = configurations::at_most_four(functions[64 + g]);
+    let count = configurations::count(functions, g);
     configurations::size(functions[32 + g], count, n) <= cells - first
 }
 
-// Visits the configurations of a function in rising order: how many outcomes were stored. A decided cell
-// costs a load and a test.
+// The word of the body that starts at a place.
+fn body_of(words: &[u64; WORDS], start: u16) -> u64
+    ensures { λ r. ⌜ r ≡ bodyAt (now (words .entry)) start ⌝ }
+{
+    words[(start % 4096) as usize]
+}
+
+// Visits the configurations of a function in rising order, row by row: how many outcomes were stored.
 fn pass_function(
-    words: &[u16; WORDS],
+    words: &[u64; WORDS],
+    trace: &[u8; codes::TRACE_BYTES],
     functions: &[u64; 96],
     table: &mut [u16],
     n: u16,
     g: usize,
-    start: u16,
+    body: u64,
 ) -> usize
     requires { ⌜ Ready (now functions) n g (length (now table)) ⌝ }
-    ensures cells { λ _. ⌜ now (table .exit) ≡ functionVisits (setupIn (now (words .entry)) (now (functions .entry))) n g start (sizeOf (now (functions .entry)) n g) (now (table .entry)) ⌝ }
-    ensures stored { λ r. ⌜ (r ≡ functionStores (setupIn (now (words .entry)) (now (functions .entry))) n g start (sizeOf (now (functions .entry)) n g) (now (table .entry))) × (r ≤ mostConfigurations) ⌝ }
+    ensures cells { λ _. ⌜ now (table .exit) ≡ visitsFrom (setup (now (words .entry)) (now (functions .entry)) (now (trace .entry))) n g body 0 (sizeOf (now (functions .entry)) n g) (now (table .entry)) ⌝ }
+    ensures stored { λ r. ⌜ (r ≡ storesFrom (setup (now (words .entry)) (now (functions .entry)) (now (trace .entry))) n g body 0 (sizeOf (now (functions .entry)) n g) (now (table .entry))) × (r ≤ mostConfigurations) ⌝ }
 {
     let kinds = functions[32 + g];
-    let count = configurations::at_most_four(functions[64 + g]);
-    let list = trace::bit(kinds, 4);
-    let first = functions[g] as usize;
-    let last = configurations::size(kinds, count, n) as usize;
+    let count = configurations::count(functions, g);
+    let others = configurations::last(count);
+    let rows = configurations::size(kinds, others, n);
+    let width = configurations::row_width(kinds, count, n) as usize;
+    let mut env = [0, 0, 0, 0, n];
+    configurations::values(kinds, others, n, 0, &mut env);
     let mut stored: usize = 0;
-    let mut i: usize = 0;
-    while i < last {
-        if codes::decided(list, n, table[first + i]) == codes::UNDECIDED {
-            stored += fill(words, functions, table, n, g, start, i);
-        }
-        i += 1;
+    let mut base: usize = 0;
+    let mut r: u64 = 0;
+    while r < rows {
+        stored += row(words, trace, functions, table, &mut env, n, g, body, base);
+        configurations::step(kinds, others, n, &mut env);
+        base += width;
+        r += 1;
     }
     stored
 }
 
-// Takes the body of an undecided configuration and stores what is decided: 1 where an outcome was stored.
-fn fill(
-    words: &[u16; WORDS],
+// Visits the configurations of a row, from one on: how many outcomes were stored. `env` has the values of the
+// other parameters; that of the last is put in at undecided cells. A decided cell costs a load and two tests.
+fn row(
+    words: &[u64; WORDS],
+    trace: &[u8; codes::TRACE_BYTES],
     functions: &[u64; 96],
     table: &mut [u16],
+    env: &mut [u16; 5],
     n: u16,
     g: usize,
-    start: u16,
-    index: usize,
+    body: u64,
+    base: usize,
 ) -> usize
-    requires { ⌜ Ready (now functions) n g (length (now table)) × (index < sizeOf (now functions) n g) ⌝ }
-    ensures cells { λ _. ⌜ now (table .exit) ≡ filled (setupIn (now (words .entry)) (now (functions .entry))) n g start (now (table .entry)) index ⌝ }
-    ensures stored { λ r. ⌜ r ≡ oneUnless (filledAt (setupIn (now (words .entry)) (now (functions .entry))) n g start (now (table .entry)) index) ⌝ }
+    requires { ⌜ RowReady (now functions) n g (length (now table)) base (now env) ⌝ }
+    ensures cells { λ _. ⌜ now (table .exit) ≡ visitsFrom (setup (now (words .entry)) (now (functions .entry)) (now (trace .entry))) n g body base (rowWidth (kindsOf (now (functions .entry)) g) n (countOf (now (functions .entry)) g)) (now (table .entry)) ⌝ }
+    ensures env { λ _. ⌜ SameOthers (countOf (now (functions .entry)) g - 1) (now (env .entry)) (now (env .exit)) ⌝ }
+    ensures stored { λ r. ⌜ r ≡ storesFrom (setup (now (words .entry)) (now (functions .entry)) (now (trace .entry))) n g body base (rowWidth (kindsOf (now (functions .entry)) g) n (countOf (now (functions .entry)) g)) (now (table .entry)) ⌝ }
 {
     let kinds = functions[32 + g];
-    let count = configurations::at_most_four(functions[64 + g]);
-    let cell = (functions[g] as usize) + index;
-    let mut env = [0, 0, 0, 0, n];
-    configurations::values(kinds, count, n, index as u64, &mut env);
-    let outcome = evaluator::outcome(
-        words,
-        functions,
-        table,
-        &env,
-        rule::MOST_DEPTH,
-        start as usize,
-    );
+    let count = configurations::count(functions, g);
+    let function = words[FUNCTIONS + STRIDE * g];
+    let slot = configurations::last(count) as usize;
+    let lowest = configurations::row_lowest(kinds, count);
+    let width = configurations::row_width(kinds, count, n);
+    let start = functions[g] + base as u64;
+    let mut stored: usize = 0;
+    let mut d: u64 = 0;
+    while d < width {
+        let cell = (start + d) as usize;
+        if functions::held(function, table[cell]) == codes::UNDECIDED {
+            stored += fill(
+                words,
+                trace,
+                table,
+                env,
+                body,
+                slot,
+                (lowest + d) as u16,
+                cell,
+            );
+        }
+        d += 1;
+    }
+    stored
+}
+
+// Puts a value in, takes the body on the values and stores what is decided in a cell: 1 where an outcome was
+// stored.
+fn fill(
+    words: &[u64; WORDS],
+    trace: &[u8; codes::TRACE_BYTES],
+    table: &mut [u16],
+    env: &mut [u16; 5],
+    body: u64,
+    slot: usize,
+    value: u16,
+    cell: usize,
+) -> usize
+    requires { ⌜ (slot < 5) × (cell < length (now table)) ⌝ }
+    ensures cells { λ _. ⌜ now (table .exit) ≡ putIn (now (table .entry)) cell (evalWord (now (words .entry)) (now (trace .entry)) (now (table .entry)) (set (now (env .entry)) slot value) mostDepth body) ⌝ }
+    ensures env { λ _. ⌜ now (env .exit) ≡ set (now (env .entry)) slot value ⌝ }
+    ensures stored { λ r. ⌜ r ≡ oneUnless (evalWord (now (words .entry)) (now (trace .entry)) (now (table .entry)) (set (now (env .entry)) slot value) mostDepth body) ⌝ }
+{
+    env[slot] = value;
+    let outcome = evaluator::outcome(words, trace, table, env, body);
     if outcome == codes::UNDECIDED {
         return 0;
     }

@@ -1,112 +1,23 @@
-// What is worked out once for an evaluation: program, expression ends and trace in one array of words, and
-// where each function's cells begin.
+// What is worked out once for an evaluation: where each function's cells begin, and the bytes of the trace.
 use crate::configurations;
-use crate::words;
-use rule::Node;
 ghost use mathlib.Core.Path.{_≡_};
-ghost use Prim.Native.Nat.{_+_, _<_, _≤_};
-ghost use lib.ListN.{length};
-ghost use lib.Seq.{paste};
-ghost use Rattle.rule.specs.Form.{mostBytes};
-ghost use Rattle.fixpoint.specs.Mirror.{bytesIn, endsIn, mostWords, wordsOf, withEnds, argumentsOf, operandsOf, endBy, functionsOf, totalOf};
+ghost use lib.ListN.{take};
+ghost use Rattle.rule.specs.Form.{padded};
+ghost use Rattle.codes.specs.{mostTraceBytes};
+ghost use Rattle.fixpoint.specs.Mirror.{functionsOf, totalOf};
 
-// Where the ends of expressions begin in the words of an evaluation: after the longest program.
-pub const ENDS: usize = rule::MOST_BYTES;
-
-// Where the trace begins in them: after an end for each byte.
-pub const TRACE: usize = ENDS + rule::MOST_BYTES;
-
-// The most bytes of a trace.
-pub const TRACE_BYTES: usize = 512;
-
-// How many words there are.
-pub const WORDS: usize = TRACE + TRACE_BYTES;
-
-// The words of an evaluation: the program's bytes, from ENDS on where the expression that starts at each
-// byte ends, from TRACE on the trace's bytes; zeros after each. Bytes of a program beyond the longest, and
-// of a trace beyond the longest, are passed over.
-pub fn words_of(program: &[u8], params: &[u8; 32], trace: &[u8]) -> [u16; WORDS]
-    ensures { λ r. ⌜ r ≡ wordsOf (now (program .entry)) (now (params .entry)) (now (trace .entry)) ⌝ }
+// The bytes of a trace, with zeros after them; those beyond the longest trace are passed over.
+pub fn trace_of(trace: &[u8]) -> [u8; codes::TRACE_BYTES]
+    ensures { λ r. ⌜ r ≡ padded mostTraceBytes 0 (take mostTraceBytes (now (trace .entry))) ⌝ }
 {
-    let mut words = [0u16; WORDS];
-    let bytes = codes::smaller(rule::MOST_BYTES, program.len());
-    put(program, bytes, 0, &mut words);
-    put(
-        trace,
-        codes::smaller(TRACE_BYTES, trace.len()),
-        TRACE,
-        &mut words,
-    );
-    put_ends(params, bytes, &mut words);
-    words
-}
-
-// Writes the first so many bytes into the words from a place on.
-fn put(bytes: &[u8], count: usize, at: usize, words: &mut [u16; WORDS])
-    requires { ⌜ (count ≤ length (now bytes)) × (at + count ≤ mostWords) × (length (now words) ≡ mostWords) ⌝ }
-    ensures { λ _. ⌜ now (words .exit) ≡ paste (now (words .entry)) at (now (bytes .entry)) count ⌝ }
-{
+    let mut bytes = [0u8; codes::TRACE_BYTES];
+    let count = codes::smaller(codes::TRACE_BYTES, trace.len());
     let mut i = 0;
     while i < count {
-        words[at + i] = bytes[i] as u16;
+        bytes[i] = trace[i];
         i += 1;
     }
-}
-
-// Writes where the expression that starts at each place of a program of so many bytes ends. The places are
-// worked out from the last, each by the ends after it.
-fn put_ends(params: &[u8; 32], len: usize, words: &mut [u16; WORDS])
-    requires { ⌜ len ≤ mostBytes ⌝ }
-    ensures { λ _. ⌜ now (words .exit) ≡ withEnds (now (params .entry)) len (now (words .entry)) ⌝ }
-{
-    let mut at = len;
-    while 0 < at {
-        at -= 1;
-        words[ENDS + at] = end_by(params, words, at);
-    }
-}
-
-// The end of the expression at a place, by the ends after it.
-fn end_by(params: &[u8; 32], words: &[u16; WORDS], at: usize) -> u16
-    requires { ⌜ at < mostBytes ⌝ }
-    ensures { λ r. ⌜ r ≡ endBy (bytesIn (now (words .entry))) (now (params .entry)) (endsIn (now (words .entry))) at ⌝ }
-{
-    let mut left = operands(params, rule::node_of(words::byte_at(words, at)));
-    let mut place = (at + 1) as u16;
-    while 0 < left {
-        place = words::end_at(words, place as usize);
-        left -= 1;
-    }
-    place
-}
-
-// How many operands a node has.
-fn operands(params: &[u8; 32], node: Node) -> u64
-    ensures { λ r. ⌜ r ≡ operandsOf (now (params .entry)) node ⌝ }
-{
-    match node {
-        Node::False => 0,
-        Node::True => 0,
-        Node::Empty => 0,
-        Node::Param(_) => 0,
-        Node::Head => 1,
-        Node::Tail => 1,
-        Node::Null => 1,
-        Node::If => 3,
-        Node::Cons => 0,
-        Node::Call(g) => arguments(params, g),
-        Node::Unknown => 0,
-    }
-}
-
-// How many arguments a call of function g has.
-fn arguments(params: &[u8; 32], g: u8) -> u64
-    ensures { λ r. ⌜ r ≡ argumentsOf (now (params .entry)) g ⌝ }
-{
-    if 32 <= g {
-        return 0;
-    }
-    configurations::at_most_four(wide(params[g as usize]))
+    bytes
 }
 
 // The functions of a program: first cells from 0 on, kinds bytes from 32 on, counts from 64 on; and the
@@ -133,7 +44,7 @@ pub fn cells_of(count: u8, params: &[u8; 32], kinds: &[u8; 32], n: u16) -> Cells
         functions[g] = total;
         functions[32 + g] = own_kinds;
         functions[64 + g] = own_params;
-        total += configurations::size(own_kinds, configurations::at_most_four(own_params), samples);
+        total += configurations::size(own_kinds, rule::at_most_four(params[g]), samples);
         g += 1;
     }
     Cells { functions, total }

@@ -4,6 +4,7 @@
 --   outline-means                         their outline is that of the program they are read as
 --   outline-params, outline-kinds, outline-starts, outline-ends   what stands in it at each place
 --   there, getD-mapped                   an element of a list by its place, and its image
+--   params-at, kinds-at                  what stands in the outline of a program for each function
 --   placed                               each of them lies within the program
 --   rawFrame, framed, fitting            the check of each works on a frame that fits it
 use mathlib.Core.Path.{_≡_, refl, sym, ap, _∙_}
@@ -230,6 +231,16 @@ pub getD-mapped : {A B : Type 0} (f : A → B) (l : List A) (i : ℕ) (a : A) (z
 getD-mapped f [] i a z e = let no : _≡_ {A = ℕ} 0 1 = cc in absurd (omega arith)
 getD-mapped f (x ∷ l) zero a z e = let same : x ≡ a = cc in ap f same
 getD-mapped f (x ∷ l) (suc i) a z e = getD-mapped f l i a z e
+
+-- the number of parameters and the kinds byte of each function, as its outline has them
+module _ (P : Program) (g : ℕ) (f : Function) (e : getElem? P g ≡ some f) where
+  pub params-at : getD (outlineOf P .params) g 0 ≡ length (f .params)
+  unfolding outlineOf
+  params-at = getD-padded mostFunctions 0 _ g ∙ getD-mapped (λ (x : Function). length (x .params)) P g f 0 e
+
+  pub kinds-at : getD (outlineOf P .kinds) g 0 ≡ kindsByte (f .params) (f .result)
+  unfolding outlineOf
+  kinds-at = getD-padded mostFunctions 0 _ g ∙ getD-mapped (λ (x : Function). kindsByte (x .params) (x .result)) P g f 0 e
 
 module _ (xs : List Raw) (i : ℕ) where
   pub outline-params : (x : Raw) → getElem? xs i ≡ some x → getD (rawOutline xs .params) i 0 ≡ x .header .params

@@ -20,11 +20,11 @@ use borrow.Author.Tests.{lt-ltb, le-leb, lt-leb, ltb-true, ltb-false, leb-true, 
 use Rattle.refusal.specs.declared.Refusal.{Refusal}
 use Rattle.refusal.specs.declared.Refusal.the-variants.{BodyEnds, TooDeep, ListConstructor, UnknownByte, WrongKind}
 use Rattle.trace.specs.{bitOf}
-use Rattle.semantics.specs.Language.{Kind, truth, list, Op, hd, tl, null, Expr, param, op, ifte, call, arg, opKind}
+use Rattle.semantics.specs.Language.{Kind, truth, list, isList, Op, hd, tl, null, Expr, param, op, ifte, call, arg, opKind}
 use Rattle.rule.specs.declared.Node.{Node}
 use Rattle.rule.specs.declared.Node.the-variants as node
 use Rattle.rule.specs.declared.Header.{Header}
-use Rattle.rule.specs.Form.{mostParams, mostBytes, isList}
+use Rattle.rule.specs.Form.{mostParams, mostBytes}
 use Rattle.rule.specs.Reading.{Parsed, got, refused, onward, kindAt, kindsFrom, resultKind, demanded, argsFrom, paramFrom, callFrom, opFrom, ifFrom, nodeOf, nodeFrom, exprFrom}
 use Rattle.rule.specs.Walk.{atMostFour, firstStop, stop, ended, ofDemand, leafWalked, paramWalked, Frame, argsWalked, armsWalked, callWalked, nodeWalked, checkAt}
 use Rattle.rule.proofs.Expressions.{place-below}

@@ -7,7 +7,7 @@ use mathlib.Core.Option.{some}
 use lib.ListN.{length, getElem?, getD, replicate}
 use Rattle.trace.specs.{binary}
 use Rattle.encoding.specs.{lowFirst}
-use Rattle.semantics.specs.Language.{Kind, truth, list, Op, hd, tl, null, Expr, constant, empty, param, op, ifte, call, Args, noArgs, arg, Function, Program, IsMain, WellKinded}
+use Rattle.semantics.specs.Language.{Kind, truth, list, isList, Op, hd, tl, null, Expr, constant, empty, param, op, ifte, call, Args, noArgs, arg, Function, Program, IsMain, WellKinded}
 
 -- a list of bytes
 abbrev pub AreBytes : List ℕ → Type 0
@@ -51,10 +51,6 @@ unfoldable mutual
   pub encodeArgs : Args → List ℕ
   encodeArgs noArgs = []
   encodeArgs (arg e xs) = encodeExpr e ++ encodeArgs xs
-
-abbrev pub isList : Kind → Bool
-isList truth = false
-isList list = true
 
 -- a list made so long by adding one element
 unfoldable pub padded : {A : Type 0} → ℕ → A → List A → List A

@@ -152,7 +152,8 @@ pub fn wide(byte: u8) -> u64
     byte as u64
 }
 
-fn at_most_four(count: u8) -> u64
+// A count of parameters, at most four.
+pub fn at_most_four(count: u8) -> u64
     ensures { λ r. ⌜ (r ≡ atMostFour count) × (r ≤ 4) ⌝ }
 {
     if count < 5 { count as u64 } else { 4 }

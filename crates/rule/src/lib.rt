@@ -10,6 +10,7 @@ use refusal::Refusal;
 ghost use mathlib.Core.Path.{_≡_};
 ghost use Rattle.rule.specs.Reading.{programFrom, programCheck};
 ghost use Rattle.rule.specs.Outline.{outlineFrom};
+pub use expression::at_most_four;
 pub use nodes::node_of;
 
 // The limits of document 01.

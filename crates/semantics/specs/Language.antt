@@ -15,6 +15,10 @@ use Rattle.semantics.specs.declared.Outcome.the-variants.{Truth, Suffix}
 pub data Kind : Type 0 where
   truth list : Kind
 
+abbrev pub isList : Kind → Bool
+isList truth = false
+isList list = true
+
 -- the operations on one list
 pub data Op : Type 0 where
   hd tl null : Op

@@ -1,39 +1,47 @@
--- `sample` meets its contract: past the words a sample is 0, and a shift to the right by k divides by 2 ^ k.
-use Prim.Native.Nat.{_^_, _%_}
-use native.Mathlib.Nat.{zero-div}
-use lib.ListN.{List·getD-eq-default}
+-- `sample` meets its contract: a shift to the right by k divides by 2 ^ k, and a bit is 0 or 1.
+use mathlib.Core.Path.{_≡_, refl, ap, _∙_}
+use mathlib.Core.Bool.{cond}
+use Prim.Native.Nat.{ℕ, zero, suc, _+_, _/_, _%_, _^_, _<_}
+use native.Mathlib.Omega.{arith}
+use lib.Dec.{eqb}
+use lib.ListN.{getD}
 use borrow.Author.Needs.{needs}
-use borrow.Author.Tests.{eq-eqb, ne-eqb}
 use Rattle.trace.specs.{bitOf}
 use Rattle.codes.proofs.sample.Statement.{statement}
 use Rattle.codes.proofs.sample.Tie as tie
 
-cast-at : tie.Need-cast-at
-cast-at c = search needs
+-- a digit as the number of a Bool
+digit-code : (y : ℕ) → y < 2 → y + 1 ≡ cond (eqb y 1) 2 1
+digit-code zero h = refl
+digit-code (suc zero) h = refl
+digit-code (suc (suc y)) h = absurd (omega arith)
+
+bit-code : (x : ℕ) → x % 2 + 1 ≡ cond (eqb (x % 2) 1) 2 1
+bit-code x = digit-code (x % 2) (omega arith)
+
+cast-wide : tie.Need-cast-wide
+cast-wide c = search needs
+
+element-copy-out-wide : tie.Need-element-copy-out-wide
+element-copy-out-wide c = search needs
+
+wide-requires : tie.Need-wide-requires
+wide-requires c κs = search needs
+
+shr-result : tie.Need-shr-result
+shr-result c = search needs
+
+add-result : tie.Need-add-result
+add-result c = search needs
 
 returns : tie.Need-returns
 unfolding bitOf
 returns c =
-    let a = c .before .args in
-    rw (List·getD-eq-default (a .trace .now) 0 (c .if1 .taken), zero-div (2 ^ (a .i % 8)))
-
-mul-if2 : tie.Need-mul-if2
-mul-if2 c = search needs
-
-shared-slice-read-if2 : tie.Need-shared-slice-read-if2
-shared-slice-read-if2 c = search needs
-
-shr-if2 : tie.Need-shr-if2
-shr-if2 c = search needs
-
-returns-2 : tie.Need-returns-2
-unfolding bitOf
-returns-2 c = simp (eq-eqb _ _ (c .if2 .taken))
-
-returns-3 : tie.Need-returns-3
-unfolding bitOf
-returns-3 c = simp (ne-eqb _ _ (c .if2 .left))
+    let a = c .before .before .args in
+    let byte = getD (a .trace .now) (a .i / 8 % 512) 0 in
+    ap (λ (b : ℕ). b / 2 ^ (a .i % 8) % 2 + 1) (c .wide .ensures) ∙ bit-code (byte / 2 ^ (a .i % 8))
 
 pub sample-spec : {M : Type 1} → statement M
 sample-spec =
-    tie.close (tie.spec cast-at returns mul-if2 shared-slice-read-if2 shr-if2 returns-2 returns-3)
+    tie.close
+    (tie.spec cast-wide element-copy-out-wide wide-requires shr-result add-result returns)

@@ -5,8 +5,11 @@ use borrow.Author.Needs.{needs}
 use Rattle.evaluate.proofs.decide.pass_once.Statement.{statement}
 use Rattle.evaluate.proofs.decide.pass_once.Tie as tie
 
-words-of-requires : tie.Need-words-of-requires
-words-of-requires c κs = search needs
+fill-requires : tie.Need-fill-requires
+fill-requires c κs = search needs
+
+trace-of-requires : tie.Need-trace-of-requires
+trace-of-requires c κs = search needs
 
 pass-requires : tie.Need-pass-requires
 pass-requires c κs = search needs
@@ -16,10 +19,12 @@ same-length c = search needs
 
 returns : tie.Need-returns
 returns c =
-    let words = c .before .before .before .before .before .before .before .before .before in
-    let known = words .before .before .before .before .before in
-    settled-pass (known .before .pre) (λ i. known .shared-slice-known .given i .fits) (words .words-of .ensures)
-    _ (omega arith) (c .before .before .pass .ensures)
+    let passed = c .before .before in
+    let traced = passed .before .before .before .before .before .before .before in
+    let filled = traced .before .before in
+    let begun = filled .before .before .before .before .before .before .before .before .before in
+    settled-pass (begun .pre) (filled .fill .ensures) (traced .trace-of .ensures) _ (omega arith) (passed .pass .ensures)
 
 pub pass-once-spec : {M : Type 1} → statement M
-pass-once-spec = tie.close (tie.spec words-of-requires pass-requires same-length returns)
+pass-once-spec =
+    tie.close (tie.spec fill-requires trace-of-requires pass-requires same-length returns)

@@ -1,12 +1,10 @@
 -- `values` meets its contract. Before each turn the values of the parameters below i are still to be put in.
-use mathlib.Core.Path.{_≡_, refl, _∙_}
-use mathlib.Core.Logic.{⊎-elim}
-use Prim.Native.Nat.{_%_, _<_, _≤_}
+use mathlib.Core.Path.{_≡_, refl}
+use Prim.Native.Nat.{_≤_}
 use native.Mathlib.Omega.{arith}
 use borrow.Author.Needs.{needs}
-use Rattle.codes.specs.{valueCode}
-use Rattle.fixpoint.specs.Mirror.{mostValues, valuesInto}
-use Rattle.fixpoint.proofs.SetupLoops.{radix-pos, digit-bound, values-more, values-whole}
+use Rattle.fixpoint.specs.Mirror.{valuesInto}
+use Rattle.fixpoint.proofs.SetupLoops.{radix-pos, values-more, values-one, values-none}
 use Rattle.fixpoint.proofs.configurations.values.Statement.{statement}
 use Rattle.fixpoint.proofs.configurations.values.Tie as tie
 
@@ -28,20 +26,11 @@ bit-requires c κs = search needs
 radix-requires : tie.Need-radix-requires Inv-loop μ-loop
 radix-requires c κs = search needs
 
-rem-digit : tie.Need-rem-digit Inv-loop μ-loop
-rem-digit c = rw (c .radix .ensures) (radix-pos (c .before .bit .result) _)
+rem-value : tie.Need-rem-value Inv-loop μ-loop
+rem-value c = rw (c .radix .ensures) (radix-pos (c .before .bit .result) _)
 
-small : (c : tie.After-radix Inv-loop μ-loop) → c .before .before .before .loop .rest % c .radix .result < mostValues
-small c = digit-bound (c .before .bit .result) _ _ (c .radix .ensures) (c .before .before .before .before .pre .1)
-
-cast-digit : tie.Need-cast-digit Inv-loop μ-loop
-cast-digit c = omega (arith, small c)
-
-add-env : tie.Need-add-env Inv-loop μ-loop
-add-env c = omega (arith, small (c .before))
-
-add-env-2 : tie.Need-add-env-2 Inv-loop μ-loop
-add-env-2 c = omega (arith, small (c .before))
+value-requires : tie.Need-value-requires Inv-loop μ-loop
+value-requires c κs = search needs
 
 mul-env : tie.Need-mul-env Inv-loop μ-loop
 mul-env c = omega arith
@@ -50,24 +39,28 @@ element-write-env : tie.Need-element-write-env Inv-loop μ-loop
 element-write-env c = omega arith
 
 div-rest : tie.Need-div-rest Inv-loop μ-loop
-div-rest c = rem-digit (c .before)
+div-rest c = rem-value (c .before)
 
 loop-less : tie.Need-loop-less Inv-loop μ-loop
 loop-less c = omega arith
 
-value : (c : tie.Joined1 Inv-loop μ-loop)
-    → c .if1 .env ≡ valueCode (c .before .before .bit .result) (c .before .before .before .before .loop .rest % c .before .radix .result)
-value c = ⊎-elim (λ w. w .1 ∙ simp (w .0 .taken)) (λ w. w .1 ∙ simp (w .0 .left)) (c .if1 .came)
-
 loop-again : tie.Need-loop-again Inv-loop μ-loop
-loop-again c = (
-  omega arith,
-  values-more _ _ _ _ _ (c .before .before .before .before .loop .inv .1) (c .before .before .before .loop-test .taken)
-      (c .before .before .bit .ensures) (c .before .radix .ensures) (value c),
-)
+loop-again c = (omega arith, values-more _ _ _ _ _ (c .before .before .before .before .loop .inv .1) (c .before .before .before .loop-test .taken) (c .before .before .bit .ensures) (c .before .radix .ensures) (c .value .ensures))
+
+bit-requires-2 : tie.Need-bit-requires-2 Inv-loop μ-loop
+bit-requires-2 c κs = search needs
+
+value-requires-2 : tie.Need-value-requires-2 Inv-loop μ-loop
+value-requires-2 c κs = search needs
+
+element-write-env-2 : tie.Need-element-write-env-2 Inv-loop μ-loop
+element-write-env-2 c = search needs
 
 returns : tie.Need-returns Inv-loop μ-loop
-returns c = values-whole _ _ _ _ _ (c .before .loop .inv .1) (c .loop-test .left)
+returns c = values-one _ _ _ _ _ (c .before .before .before .before .loop .inv .1) (c .before .before .before .loop-test .left) (c .before .before .if1 .taken) (c .before .bit2 .ensures) (c .value2 .ensures)
+
+returns-2 : tie.Need-returns-2 Inv-loop μ-loop
+returns-2 c = values-none _ _ _ _ _ (c .before .before .loop .inv .1) (c .if1 .left)
 
 pub values-spec : {M : Type 1} → statement M
 values-spec =
@@ -79,13 +72,15 @@ values-spec =
     sub-i
     bit-requires
     radix-requires
-    rem-digit
-    cast-digit
-    add-env
-    add-env-2
+    rem-value
+    value-requires
     mul-env
     element-write-env
     div-rest
     loop-less
     loop-again
-    returns)
+    bit-requires-2
+    value-requires-2
+    element-write-env-2
+    returns
+    returns-2)

@@ -1,7 +1,4 @@
 -- `lies_within` meets its contract, by its four cases.
-use Prim.Native.Nat.{_+_}
-use lib.ListN.{getD}
-use Rattle.fixpoint.proofs.SetupLoops.{few-bound}
 use Rattle.fixpoint.proofs.PassWays.{fits-beyond, fits-long, fits-past, fits-left}
 use borrow.Author.Needs.{needs}
 use Rattle.fixpoint.proofs.passes.lies_within.Statement.{statement}
@@ -25,17 +22,8 @@ element-copy-out-first c = search needs
 returns-3 : tie.Need-returns-3
 returns-3 c = fits-past _ _ _ _ (c .before .before .before .if1 .left) (c .before .before .if2 .left) (c .if3 .taken)
 
-add-at-most-four : tie.Need-add-at-most-four
-add-at-most-four c = search needs
-
-mul-at-most-four : tie.Need-mul-at-most-four
-mul-at-most-four c = search needs
-
-element-copy-out-at-most-four : tie.Need-element-copy-out-at-most-four
-element-copy-out-at-most-four c = search needs
-
-at-most-four-requires : tie.Need-at-most-four-requires
-at-most-four-requires c κs = search needs
+count-requires : tie.Need-count-requires
+count-requires c κs = c .before .before .before .if1 .left
 
 add-size : tie.Need-add-size
 add-size c = search needs
@@ -47,17 +35,14 @@ element-copy-out-size : tie.Need-element-copy-out-size
 element-copy-out-size c = search needs
 
 size-requires : tie.Need-size-requires
-size-requires c κs =
-    let tested = c .before .before .before .before .before in
-    let a = tested .before .before .args in
-    (rw (c .before .at-most-four .ensures) (few-bound (getD (a .functions .now) (64 + a .g) 0)), tested .if2 .left)
+size-requires c κs = (c .before .count .ensures .1, c .before .before .before .before .if2 .left)
 
 returns-4 : tie.Need-returns-4
 returns-4 c =
     let counted = c .before .before in
-    let room = counted .before .before in
+    let room = counted .before in
     let tested = room .before .before in
-    fits-left _ _ _ _ (tested .before .if1 .left) (tested .if2 .left) (room .if3 .left) (rw (counted .at-most-four .ensures) at (c .size .ensures .0))
+    fits-left _ _ _ _ (tested .before .if1 .left) (tested .if2 .left) (room .if3 .left) (rw (counted .count .ensures .0) at (c .size .ensures .0))
 
 pub lies-within-spec : {M : Type 1} → statement M
 lies-within-spec =
@@ -69,10 +54,7 @@ lies-within-spec =
     mul-first
     element-copy-out-first
     returns-3
-    add-at-most-four
-    mul-at-most-four
-    element-copy-out-at-most-four
-    at-most-four-requires
+    count-requires
     add-size
     mul-size
     element-copy-out-size

@@ -5,17 +5,17 @@ use Prim.Native.Nat.{_-_, _≤_}
 use native.Mathlib.Omega.{arith}
 use lib.ListN.{length}
 use borrow.Author.Needs.{needs}
-use Rattle.fixpoint.specs.Mirror.{setupIn, Ready}
+use Rattle.fixpoint.specs.Mirror.{setup, Ready}
 use Rattle.fixpoint.proofs.PassWays.{fits-ready, Covering, covering-start, covering-more, covering-over, covering-end}
 use Rattle.fixpoint.proofs.passes.pass.Statement.{statement}
 use Rattle.fixpoint.proofs.passes.pass.Tie as tie
 
 abbrev Inv-loop : tie.InvT-loop
-Inv-loop words functions table₀ n starts count len last stored₀ g₀ table stored g =
-    Covering (setupIn words functions) n starts table₀ table stored g × (g ≤ last)
+Inv-loop words trace functions table₀ n starts count len last stored₀ g₀ table stored g =
+    Covering (setup words functions trace) n starts table₀ table stored g × (g ≤ last)
 
 abbrev μ-loop : tie.MeasureT-loop
-μ-loop words functions table₀ n starts count len last stored₀ g₀ table stored g = last - g
+μ-loop words trace functions table₀ n starts count len last stored₀ g₀ table stored g = last - g
 
 -- a function that is visited has its cells within the table
 inside : (c : tie.Then1 Inv-loop μ-loop) → let at = c .before .before .before in
@@ -29,15 +29,18 @@ loop-holds c = (covering-start _ _ _ _, omega arith)
 lies-within-requires : tie.Need-lies-within-requires Inv-loop μ-loop
 lies-within-requires c κs = search needs
 
-mul-pass-function : tie.Need-mul-pass-function Inv-loop μ-loop
-mul-pass-function c = omega (arith, inside (c .before) .below)
+mul-body-of : tie.Need-mul-body-of Inv-loop μ-loop
+mul-body-of c = omega (arith, inside c .below)
 
-element-copy-out-pass-function : tie.Need-element-copy-out-pass-function Inv-loop μ-loop
-element-copy-out-pass-function c = omega (arith, inside (c .before) .below)
+element-copy-out-body-of : tie.Need-element-copy-out-body-of Inv-loop μ-loop
+element-copy-out-body-of c = omega (arith, inside c .below)
+
+body-of-requires : tie.Need-body-of-requires Inv-loop μ-loop
+body-of-requires c κs = search needs
 
 pass-function-requires : tie.Need-pass-function-requires Inv-loop μ-loop
 pass-function-requires c κs =
-    let taken = c .before .before in
+    let taken = c .before .before .before in
     let ready = inside taken in
     let same = taken .before .before .before .loop .inv .0 .same in
     record { below = ready .below; samples = ready .samples; within = rw same (ready .within) }
@@ -45,7 +48,7 @@ pass-function-requires c κs =
 add-stored : tie.Need-add-stored Inv-loop μ-loop
 add-stored c =
     let called = c .before .before in
-    let at = called .before .before .before .before .before .before in
+    let at = called .before .before .before .before .before .before .before in
     omega (arith, at .loop .inv .0 .few, called .pass-function .ensures .1 .1)
 
 add-g : tie.Need-add-g Inv-loop μ-loop
@@ -60,7 +63,9 @@ loop-again c =
     let inv = tested .before .before .loop .inv .0 in
     let test = sym (tested .lies-within .ensures) in (
       ⊎-elim
-          (λ w. rw (w .6) (rw (w .7) (covering-more inv (test ∙ w .0 .taken) (w .3 .ensures .0) (w .3 .ensures .1))))
+          (λ w. rw (w .7)
+          (rw (w .8)
+          (covering-more inv (test ∙ w .0 .taken) (rw (w .2 .ensures) at (w .4 .ensures .0)) (rw (w .2 .ensures) at (w .4 .ensures .1)))))
           (λ w. rw (w .1) (rw (w .2) (covering-over inv (test ∙ w .0 .left))))
           (c .if1 .came),
       omega (arith, tested .before .loop-test .taken),
@@ -80,8 +85,9 @@ pass-spec =
     μ-loop
     loop-holds
     lies-within-requires
-    mul-pass-function
-    element-copy-out-pass-function
+    mul-body-of
+    element-copy-out-body-of
+    body-of-requires
     pass-function-requires
     add-stored
     add-g

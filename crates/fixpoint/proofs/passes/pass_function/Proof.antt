@@ -1,41 +1,41 @@
--- `pass_function` meets its contract. Before each turn the configurations below i have been visited.
+-- `pass_function` meets its contract. Before each turn r rows have been visited, and the values are those of the next.
 use mathlib.Core.Path.{_≡_}
-use mathlib.Core.Logic.{⊎-elim}
-use Prim.Native.Nat.{_+_, _-_, _<_, _≤_}
+use Prim.Native.Nat.{_-_, _<_, _≤_}
 use native.Mathlib.Omega.{arith}
-use lib.ListN.{length, getD}
 use borrow.Author.Needs.{needs}
-use Rattle.trace.specs.{bitOf}
-use Rattle.codes.specs.{decidedCode}
-use Rattle.fixpoint.specs.Mirror.{setupIn, kindsOf, sizeOf}
-use Rattle.fixpoint.proofs.SetupLoops.{few-bound}
-use Rattle.fixpoint.proofs.PassWays.{Visited, visited-start, visited-length, visited-few, visited-kept, visited-open, visited-end}
+use Rattle.rule.specs.Form.{mostParams}
+use Rattle.fixpoint.specs.Mirror.{setup, kindsOf, countOf, sizeFrom, sizeOf, rowWidth}
+use Rattle.fixpoint.proofs.Rows.{size-most}
+use Rattle.fixpoint.proofs.PassWays.{stores-le, visited-length, visited-few, visited-row}
+use Rattle.fixpoint.proofs.RowLoop.{Stepping, stepping-start, stepping-inside, stepping-ready, stepping-more, stepping-end}
 use Rattle.fixpoint.proofs.passes.pass_function.Statement.{statement}
 use Rattle.fixpoint.proofs.passes.pass_function.Tie as tie
 
 abbrev Inv-loop : tie.InvT-loop
-Inv-loop words functions table₀ n g start kinds count list first last stored₀ i₀ table stored i =
-    Visited (setupIn words functions) n g start table₀ table stored i × (i ≤ last)
+Inv-loop words trace functions table₀ n g body kinds count others rows width env₀ stored₀ base₀ r₀ table env stored base r =
+    Stepping (setup words functions trace) n g body table₀ table env stored base r
 
 abbrev μ-loop : tie.MeasureT-loop
-μ-loop words functions table₀ n g start kinds count list first last stored₀ i₀ table stored i = last - i
+μ-loop words trace functions table₀ n g body kinds count others rows width env₀ stored₀ base₀ r₀ table env stored base r = rows - r
 
-sized : (c : tie.After-size Inv-loop μ-loop) → let a =
-    c .before .before .before .before .before .before .before .args in c .size .result ≡ sizeOf (a .functions .now) (a .n) (a .g)
-sized c = rw (c .before .before .before .at-most-four .ensures) at (c .size .ensures .0)
+rows-is : (c : tie.After-size Inv-loop μ-loop) → let a = c .before .before .before .before .before .args in
+    c .size .result ≡ sizeFrom (kindsOf (a .functions .now) (a .g)) (a .n) 0 (countOf (a .functions .now) (a .g) - 1)
+rows-is c = rw (c .before .last .ensures, c .before .before .count .ensures .0) at (c .size .ensures .0)
 
--- a configuration's cell lies within the table
-within : (c : tie.In-loop Inv-loop μ-loop) → let a = c .before .before .before .before .before .before .before .before .before .args in
-    getD (a .functions .now) (a .g) 0 + c .before .loop .i < length (c .before .loop .table)
-within c =
-    let s = c .before .before .before .before .before .before .before .before .before in
-    omega (arith, s .pre .within, sized (c .before .before), visited-length (c .before .loop .inv .0), c .loop-test .taken)
+others-is : (c : tie.After-last Inv-loop μ-loop) → let a = c .before .before .before .before .args in c .last .result ≡ countOf (a .functions .now) (a .g) - 1
+others-is c = rw (c .before .count .ensures .0) at (c .last .ensures)
 
-decided-here : (c : tie.After-decided Inv-loop μ-loop) → let at = c .before .before .before in
-    let a = at .before .before .before .before .before .before .before .before .args in
-    let cell = getD (at .loop .table) (getD (a .functions .now) (a .g) 0 + at .loop .i) 0 in
-    c .decided .result ≡ decidedCode (bitOf 4 (kindsOf (a .functions .now) (a .g))) (a .n) cell
-decided-here c = rw (c .before .before .before .before .before .before .bit .ensures) at (c .decided .ensures)
+width-is : (c : tie.After-row-width Inv-loop μ-loop) → let a = c .before .before .before .before .before .before .args in
+    c .row-width .result ≡ rowWidth (kindsOf (a .functions .now) (a .g)) (a .n) (countOf (a .functions .now) (a .g))
+width-is c = rw (c .before .before .before .count .ensures .0) at (c .row-width .ensures)
+
+narrow : (c : tie.After-count Inv-loop μ-loop) → let a = c .before .before .before .args in countOf (a .functions .now) (a .g) ≤ mostParams
+narrow c = rw (c .count .ensures .0) at (c .count .ensures .1)
+
+-- there is a row left
+in-rows : (c : tie.In-loop Inv-loop μ-loop) → let a = c .before .before .before .before .before .before .before .before .before .before .args in
+    c .before .loop .r < sizeFrom (kindsOf (a .functions .now) (a .g)) (a .n) 0 (countOf (a .functions .now) (a .g) - 1)
+in-rows c = rw (rows-is (c .before .before .before .before .before)) at (c .loop-test .taken)
 
 add-kinds : tie.Need-add-kinds Inv-loop μ-loop
 add-kinds c = search needs
@@ -46,89 +46,75 @@ mul-kinds c = search needs
 element-copy-out-kinds : tie.Need-element-copy-out-kinds Inv-loop μ-loop
 element-copy-out-kinds c = search needs
 
-add-at-most-four : tie.Need-add-at-most-four Inv-loop μ-loop
-add-at-most-four c = search needs
+count-requires : tie.Need-count-requires Inv-loop μ-loop
+count-requires c κs = c .before .before .pre .below
 
-mul-at-most-four : tie.Need-mul-at-most-four Inv-loop μ-loop
-mul-at-most-four c = search needs
-
-element-copy-out-at-most-four : tie.Need-element-copy-out-at-most-four Inv-loop μ-loop
-element-copy-out-at-most-four c = search needs
-
-at-most-four-requires : tie.Need-at-most-four-requires Inv-loop μ-loop
-at-most-four-requires c κs = search needs
-
-bit-requires : tie.Need-bit-requires Inv-loop μ-loop
-bit-requires c κs = search needs
-
-mul-first : tie.Need-mul-first Inv-loop μ-loop
-mul-first c = search needs
-
-element-copy-out-first : tie.Need-element-copy-out-first Inv-loop μ-loop
-element-copy-out-first c = search needs
+last-requires : tie.Need-last-requires Inv-loop μ-loop
+last-requires c κs = search needs
 
 size-requires : tie.Need-size-requires Inv-loop μ-loop
-size-requires c κs =
-    let a = c .before .before .before .before .before .before .args in (
-      rw (c .before .before .at-most-four .ensures) (few-bound (getD (a .functions .now) (64 + a .g) 0)),
-      c .before .before .before .before .before .before .pre .samples,
-    )
+size-requires c κs = (omega (arith, c .last .ensures, c .before .count .ensures .1), c .before .before .before .before .pre .samples)
+
+row-width-requires : tie.Need-row-width-requires Inv-loop μ-loop
+row-width-requires c κs = search needs
+
+values-requires : tie.Need-values-requires Inv-loop μ-loop
+values-requires c κs = (omega (arith, c .before .before .before .last .ensures, c .before .before .before .before .count .ensures .1), c .before .before .before .before .before .before .before .pre .samples)
 
 loop-holds : tie.Need-loop-holds Inv-loop μ-loop
-loop-holds c = (visited-start _ _ _ _ _, omega arith)
+loop-holds c = stepping-start _ _ _ _ _ (rw (others-is (c .before .before .before .before)) at (c .values .ensures))
 
-add-decided : tie.Need-add-decided Inv-loop μ-loop
-add-decided c = omega (arith, within c)
-
-mul-decided : tie.Need-mul-decided Inv-loop μ-loop
-mul-decided c = omega (arith, within c)
-
-slice-read-decided : tie.Need-slice-read-decided Inv-loop μ-loop
-slice-read-decided c = within (c .before)
-
-decided-requires : tie.Need-decided-requires Inv-loop μ-loop
-decided-requires c κs = search needs
-
-fill-requires : tie.Need-fill-requires Inv-loop μ-loop
-fill-requires c κs =
-    let s = c .before .before .before .before .before .before .before .before .before .before .before .before .before in
-    let at = c .before .before .before .before .before in (
-      record { below = s .pre .below; samples = s .pre .samples; within = omega (arith, s .pre .within, visited-length (at .loop .inv .0)) },
-      omega (arith, sized (at .before), c .before .before .before .before .loop-test .taken),
-    )
+row-requires : tie.Need-row-requires Inv-loop μ-loop
+row-requires c κs =
+    let inside = c .before .before in
+    stepping-ready _ _ _ _ _ (c .before .before .before .before .before .before .before .before .before .before .before .before .pre) (narrow (c .before .before .before .before .before .before .before .before .before)) (inside .before .loop .inv) (in-rows inside)
 
 add-stored : tie.Need-add-stored Inv-loop μ-loop
 add-stored c =
-    let filled = c .before .before in
-    let decided = filled .before .before .before in
-    let inside = decided .before .before in
-    let visited = visited-open (inside .before .loop .inv .0) (decided-here decided) (filled .before .before .if1 .taken)
-    (filled .fill .ensures .0) (filled .fill .ensures .1) in
-    omega (arith, visited-few visited, inside .before .before .size .ensures .1, inside .loop-test .taken)
+    let row = c .before .before in
+    let inside = row .before .before .before in
+    let p = inside .before .loop .inv in
+    let begun = c .before .before .before .before .before .before .before .before .before .before .before .before .before .before .before in
+    let visited = visited-row _ (p .visited) (row .row .ensures .0) (row .row .ensures .1 .1) in
+    omega (arith, visited-few visited, stepping-inside _ _ _ _ _ (begun .pre) (narrow (c .before .before .before .before .before .before .before .before .before .before .before .before)) p (in-rows inside), begun .pre .within)
 
-add-i : tie.Need-add-i Inv-loop μ-loop
-add-i c = search needs
+step-requires : tie.Need-step-requires Inv-loop μ-loop
+step-requires c κs = (omega (arith, c .before .before .before .before .before .before .before .before .before .before .before .before .last .ensures, c .before .before .before .before .before .before .before .before .before .before .before .before .before .count .ensures .1), c .before .before .before .before .before .before .before .before .before .before .before .before .before .before .before .before .pre .samples)
+
+add-base : tie.Need-add-base Inv-loop μ-loop
+add-base c =
+    let inside = c .before .before .before .before .before .before .before in
+    let begun = c .before .before .before .before .before .before .before .before .before .before .before .before .before .before .before .before .before in
+    let room = stepping-inside _ _ _ _ _ (begun .pre) (narrow (c .before .before .before .before .before .before .before .before .before .before .before .before .before .before)) (inside .before .loop .inv) (in-rows inside) in
+    omega (arith, room, width-is (c .before .before .before .before .before .before .before .before .before .before .before), begun .pre .within)
+
+add-r : tie.Need-add-r Inv-loop μ-loop
+add-r c = omega (arith, c .before .before .before .before .before .before .before .loop-test .taken, c .before .before .before .before .before .before .before .before .before .before .before .before .size .ensures .1)
 
 loop-less : tie.Need-loop-less Inv-loop μ-loop
-loop-less c = search needs
+loop-less c = omega arith
 
 loop-again : tie.Need-loop-again Inv-loop μ-loop
 loop-again c =
-    let inv = c .before .before .before .before .loop .inv .0 in (
-      ⊎-elim
-          (λ w. rw (w .5) (rw (w .6) (visited-open inv (decided-here (c .before)) (w .0 .taken) (w .2 .ensures .0) (w .2 .ensures .1))))
-          (λ w. rw (w .1) (rw (w .2) (visited-kept inv (decided-here (c .before)) (w .0 .left))))
-          (c .if1 .came),
-      omega (arith, c .before .before .before .loop-test .taken),
-    )
+    let row = c .before .before .before .before .row .ensures in
+    let inside = c .before .before .before .before .before .before .before in
+    rw (width-is (c .before .before .before .before .before .before .before .before .before .before .before))
+    (stepping-more _ _ _ _ _ (c .before .before .before .before .before .before .before .before .before .before .before .before .before .before .before .before .before .pre) (narrow (c .before .before .before .before .before .before .before .before .before .before .before .before .before .before)) (inside .before .loop .inv) (in-rows inside) _ (row .0) (row .1 .1) (row .1 .0)
+    (rw (others-is (c .before .before .before .before .before .before .before .before .before .before .before .before .before)) at (c .step .ensures)))
 
 same-length : tie.Need-same-length Inv-loop μ-loop
-same-length c = visited-length (c .before .loop .inv .0)
+same-length c = visited-length (c .before .loop .inv .visited)
 
 returns : tie.Need-returns Inv-loop μ-loop
 returns c =
-    let v = visited-end (c .before .loop .inv .0) (c .before .loop .inv .1) (c .loop-test .left) (sized (c .before .before)) in
-    (v .0, (v .1, omega (arith, visited-few (c .before .loop .inv .0), c .before .loop .inv .1, c .before .before .size .ensures .1)))
+    let begun = c .before .before .before .before .before .before .before .before .before .before in
+    let a = begun .args in
+    let S = setup (a .words .now) (a .functions .now) (a .trace .now) in
+    let few = narrow (c .before .before .before .before .before .before .before) in
+    let all = rw (rows-is (c .before .before .before .before .before)) at (c .loop-test .left) in
+    let v = stepping-end _ _ _ _ _ (begun .pre) few (c .before .loop .inv) all in
+    let most = size-most (kindsOf (a .functions .now) (a .g)) (a .n) (begun .pre .samples) (countOf (a .functions .now) (a .g)) few in
+    (v .0, (v .1, omega (arith, v .1, most, stores-le S (a .n) (a .g) (a .body) 0 (a .table .now) (sizeOf (a .functions .now) (a .n) (a .g)))))
 
 pub pass-function-spec : {M : Type 1} → statement M
 pass-function-spec =
@@ -139,22 +125,17 @@ pass-function-spec =
     add-kinds
     mul-kinds
     element-copy-out-kinds
-    add-at-most-four
-    mul-at-most-four
-    element-copy-out-at-most-four
-    at-most-four-requires
-    bit-requires
-    mul-first
-    element-copy-out-first
+    count-requires
+    last-requires
     size-requires
+    row-width-requires
+    values-requires
     loop-holds
-    add-decided
-    mul-decided
-    slice-read-decided
-    decided-requires
-    fill-requires
+    row-requires
     add-stored
-    add-i
+    step-requires
+    add-base
+    add-r
     loop-less
     loop-again
     same-length

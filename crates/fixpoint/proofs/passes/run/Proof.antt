@@ -2,17 +2,17 @@
 use Prim.Native.Nat.{_-_}
 use native.Mathlib.Omega.{arith}
 use borrow.Author.Needs.{needs}
-use Rattle.fixpoint.specs.Mirror.{setupIn, mostPasses}
+use Rattle.fixpoint.specs.Mirror.{setup, mostPasses}
 use Rattle.fixpoint.proofs.PassWays.{Running, running-start, running-length, running-stop, running-more, running-end}
 use Rattle.fixpoint.proofs.passes.run.Statement.{statement}
 use Rattle.fixpoint.proofs.passes.run.Tie as tie
 
 abbrev Inv-loop : tie.InvT-loop
-Inv-loop words functions table₀ n starts count done₀ table done =
-    Running (setupIn words functions) n starts count mostPasses table₀ table done
+Inv-loop words trace functions table₀ n starts count done₀ table done =
+    Running (setup words functions trace) n starts count mostPasses table₀ table done
 
 abbrev μ-loop : tie.MeasureT-loop
-μ-loop words functions table₀ n starts count done₀ table done = mostPasses - done
+μ-loop words trace functions table₀ n starts count done₀ table done = mostPasses - done
 
 loop-holds : tie.Need-loop-holds Inv-loop μ-loop
 loop-holds c = running-start _ _ _ _ mostPasses _

@@ -2,7 +2,7 @@
 use Prim.Native.Nat.{_-_, _≤_}
 use native.Mathlib.Omega.{arith}
 use borrow.Author.Needs.{needs}
-use Rattle.fixpoint.proofs.SetupLoops.{few-bound, Listed, listed-start, listed-more, cells-listed}
+use Rattle.fixpoint.proofs.SetupLoops.{Listed, listed-start, listed-more, cells-listed}
 use Rattle.fixpoint.proofs.setup.cells_of.Statement.{statement}
 use Rattle.fixpoint.proofs.setup.cells_of.Tie as tie
 
@@ -63,16 +63,17 @@ mul-functions-3 c = omega arith
 array-write-functions-3 : tie.Need-array-write-functions-3 Inv-loop μ-loop
 array-write-functions-3 c = omega arith
 
+element-copy-out-at-most-four : tie.Need-element-copy-out-at-most-four Inv-loop μ-loop
+element-copy-out-at-most-four c = omega arith
+
 at-most-four-requires : tie.Need-at-most-four-requires Inv-loop μ-loop
 at-most-four-requires c κs = search needs
 
 size-requires : tie.Need-size-requires Inv-loop μ-loop
-size-requires c κs =
-    let start = c .before .before .before .before .before .before .before in
-    (rw (c .at-most-four .ensures) (few-bound (c .before .wide2 .result)), omega (arith, start .before .smaller .ensures))
+size-requires c κs = (c .at-most-four .ensures .1, omega (arith, c .before .before .before .before .before .before .before .before .before .smaller .ensures))
 
 add-total : tie.Need-add-total Inv-loop μ-loop
-add-total c = omega (arith, c .before .before .before .before .before .before .before .loop .inv .1 .bound, c .size .ensures .1)
+add-total c = omega (arith, c .before .before .before .before .before .before .before .before .loop .inv .1 .bound, c .size .ensures .1)
 
 add-g : tie.Need-add-g Inv-loop μ-loop
 add-g c = omega arith
@@ -82,10 +83,10 @@ loop-less c = omega arith
 
 loop-again : tie.Need-loop-again Inv-loop μ-loop
 loop-again c =
-    let wide2 = c .before .before in
+    let wide2 = c .before .before .before in
     let wide = wide2 .before .before in
     let at = wide .before .before .before in
-    let count = c .before .at-most-four .ensures in
+    let count = c .before .at-most-four .ensures .0 in
     (omega arith, listed-more _ _ _ _ (at .loop .inv .1) (wide .wide .ensures) (wide2 .wide2 .ensures) count (c .size .ensures))
 
 returns : tie.Need-returns Inv-loop μ-loop
@@ -118,6 +119,7 @@ cells-of-spec =
     add-functions-2
     mul-functions-3
     array-write-functions-3
+    element-copy-out-at-most-four
     at-most-four-requires
     size-requires
     add-total

@@ -1,0 +1,71 @@
+-- What the words of an evaluation hold:
+--   node-filled                       at each place of a program the decoding of the byte there over these very words
+--   function-filled, param-filled     for each function its own word, and one for each parameter
+use Prim.Native.Nat.{ℕ, _+_, _-_, _*_, _/_, _%_, _<_, _≤_, min}
+use native.Mathlib.Nat.{min-eq-left, min-eq-right}
+use native.Mathlib.Omega.{arith}
+use mathlib.Core.Path.{_≡_, ap, _∙_}
+use mathlib.Core.List.{List}
+use lib.ListN.{length, getD, replicate}
+use borrow.Author.Tests.{ne-eqb}
+use Rattle.trace.specs.{bitOf}
+use Rattle.rule.specs.Form.{mostFunctions, mostBytes}
+use Rattle.decoding.specs.Words.{functionsFrom, stride, mostWords, functionWord, kindWord}
+use Rattle.decoding.specs.Decoding.{endsDown, wordBy, wordsDown, entryOf, entriesUpto, wordsFilled}
+use Rattle.decoding.proofs.Sweep.{words-above, word-there, entries-length, entry-there}
+
+-- ---- Entries
+
+module _ (functions : List ℕ) (n g : ℕ) where
+  function-entry : entryOf functions n (stride * g) ≡ functionWord (getD functions g 0) (bitOf 4 (getD functions (32 + g) 0)) n
+  unfolding entryOf
+  function-entry =
+      let which : stride * g / stride ≡ g = omega arith in
+      let first : stride * g % stride ≡ 0 = omega arith in
+      rw (which, first)
+
+  param-entry : (i : ℕ) → i < 4 → entryOf functions n (stride * g + 1 + i) ≡ kindWord (bitOf i (getD functions (32 + g) 0)) n
+  unfolding entryOf
+  param-entry i h =
+      let which : (stride * g + 1 + i) / stride ≡ g = omega arith in
+      let later : (stride * g + 1 + i) % stride ≡ 1 + i = omega arith in
+      let back : 1 + i - 1 ≡ i = omega arith in
+      rw (which, later, ne-eqb (1 + i) 0 (λ e. omega arith), back)
+
+-- ---- The words of a program and of its functions, written into as many
+
+module _ (code params functions : List ℕ) (count n : ℕ) (z : List ℕ) (long : length z ≡ mostWords) (short : length code ≤ mostBytes)
+    (few : count ≤ mostFunctions) where
+  abbrev words : List ℕ
+  words = wordsFilled code params functions count n z
+
+  abbrev zeros : List ℕ
+  zeros = replicate mostBytes 0
+
+  whole : words ≡ wordsDown code params zeros (length code) 0 (entriesUpto functions n (stride * count) z)
+  unfolding wordsFilled
+  whole = rw (min-eq-right short, min-eq-left few)
+
+  pub node-filled : (at : ℕ) → at < length code
+      → getD words at 0 ≡ wordBy code params (endsDown code params (length code - (at + 1)) (at + 1) zeros) words at
+  node-filled at h =
+      let room : 0 + length code ≤ length (entriesUpto functions n (stride * count) z) = omega (arith, entries-length functions n (stride * count) z) in
+      let same : 0 + length code ≡ length code = omega arith in
+      rw whole
+      (rw same at (word-there code params zeros (length code) 0 (entriesUpto functions n (stride * count) z) at room (omega arith) (omega arith)))
+
+  entry-filled : (k : ℕ) → k < stride * count → getD words (functionsFrom + k) 0 ≡ entryOf functions n k
+  entry-filled k h =
+      rw whole
+      (words-above code params zeros (length code) 0 (entriesUpto functions n (stride * count) z) (functionsFrom + k) (omega arith)
+      ∙ entry-there functions n (stride * count) z k (omega arith) h)
+
+  pub function-filled : (g : ℕ) → g < count
+      → getD words (functionsFrom + stride * g) 0 ≡ functionWord (getD functions g 0) (bitOf 4 (getD functions (32 + g) 0)) n
+  function-filled g h = entry-filled (stride * g) (omega arith) ∙ function-entry functions n g
+
+  pub param-filled : (g i : ℕ) → g < count → i < 4
+      → getD words (functionsFrom + stride * g + 1 + i) 0 ≡ kindWord (bitOf i (getD functions (32 + g) 0)) n
+  param-filled g i h l =
+      let place : functionsFrom + stride * g + 1 + i ≡ functionsFrom + (stride * g + 1 + i) = omega arith in
+      rw place (entry-filled (stride * g + 1 + i) (omega arith) ∙ param-entry functions n g i l)

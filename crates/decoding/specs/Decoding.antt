@@ -1,0 +1,126 @@
+-- A mirror of the code: the words of a program and its functions. No reader need believe it: proofs/ shows that each place
+-- holds the decoding of the byte there.
+use Prim.Native.Nat.{ℕ, zero, suc, _+_, _-_, _*_, _/_, _%_, min}
+use mathlib.Core.Bool.{cond}
+use mathlib.Core.List.{List}
+use lib.Dec.{ltb, eqb}
+use lib.ListN.{length, getD, set, replicate}
+use Rattle.trace.specs.{bitOf}
+use Rattle.semantics.specs.Cells.{undecidedCode, falseCode, trueCode, suffixCode}
+use Rattle.rule.specs.declared.Node.{Node}
+use Rattle.rule.specs.declared.Node.the-variants as node
+use Rattle.rule.specs.Form.{mostFunctions, mostBytes}
+use Rattle.rule.specs.Reading.{nodeOf}
+use Rattle.rule.specs.Walk.{atMostFour}
+use Rattle.decoding.specs.Words.{constantSort, paramSort, headSort, tailSort, nullSort, headParamSort, tailParamSort, nullParamSort, ifSort, ifParamSort, ifNullSort, ifHeadSort, callSort, callOneSort, packed, sortOf, paramOf, functionsFrom, stride, functionWord, kindWord}
+
+-- ---- Where expressions end
+
+unfoldable pub endAt : List ℕ → ℕ → ℕ
+endAt ends at = cond (ltb at mostBytes) (getD ends at 0) mostBytes
+
+-- the end of so many expressions, one after the other
+unfoldable pub endsAfter : List ℕ → ℕ → ℕ → ℕ
+endsAfter ends zero at = at
+endsAfter ends (suc n) at = endsAfter ends n (endAt ends at)
+
+-- how many arguments a call of function g has; `params` are the counts of the functions
+abbrev pub argumentsOf : List ℕ → ℕ → ℕ
+argumentsOf params g = cond (ltb g 32) (atMostFour (getD params g 0)) 0
+
+-- how many operands a node has
+abbrev pub operandsOf : List ℕ → Node → ℕ
+operandsOf params node.False = 0
+operandsOf params node.True = 0
+operandsOf params node.Empty = 0
+operandsOf params (node.Param i) = 0
+operandsOf params node.Head = 1
+operandsOf params node.Tail = 1
+operandsOf params node.Null = 1
+operandsOf params node.If = 3
+operandsOf params node.Cons = 0
+operandsOf params (node.Call g) = argumentsOf params g
+operandsOf params node.Unknown = 0
+
+-- the end of the expression at a place, by the ends after it
+unfoldable pub endBy : List ℕ → List ℕ → List ℕ → ℕ → ℕ
+endBy code params ends at = endsAfter ends (operandsOf params (nodeOf (getD code at 0))) (at + 1)
+
+-- the ends at so many places from a place on, worked out backwards from the last
+unfoldable pub endsDown : List ℕ → List ℕ → ℕ → ℕ → List ℕ → List ℕ
+endsDown code params zero at ends = ends
+endsDown code params (suc k) at ends = let later = endsDown code params k (at + 1) ends in set later at (endBy code params later at)
+
+-- ---- Nodes
+
+-- a constant, by the number of its outcome; that of undecided for a byte that is no node of a program
+abbrev pub constantBy : ℕ → ℕ
+constantBy c = packed constantSort 0 c 0 0 0
+
+-- hd, tl or null, by the word of its operand
+abbrev pub unaryBy : ℕ → ℕ → ℕ → ℕ → ℕ
+unaryBy sort ofParam first operand =
+    cond (eqb (sortOf operand) paramSort) (packed ofParam (paramOf operand) first 0 0 0) (packed sort 0 first 0 0 0)
+
+-- the sort of an if, by the word of its condition
+abbrev pub conditionalBy : ℕ → ℕ
+conditionalBy condition =
+    cond (eqb (sortOf condition) paramSort) ifParamSort
+    (cond (eqb (sortOf condition) nullParamSort) ifNullSort
+    (cond (eqb (sortOf condition) headParamSort) ifHeadSort ifSort))
+
+-- a node whose operands stand one after the other from a place on
+abbrev pub placed : List ℕ → ℕ → ℕ → ℕ → ℕ
+placed ends sort small first =
+    packed sort small first (endAt ends first) (endAt ends (endAt ends first)) (endAt ends (endAt ends (endAt ends first)))
+
+-- a call of function g with so many arguments
+abbrev pub calledBy : List ℕ → ℕ → ℕ → ℕ → ℕ
+calledBy ends count g first = placed ends (cond (eqb count 1) callOneSort callSort) (g % 32 + 32 * count) first
+
+-- the word of a node: `first` is the place after it, `next` the word there
+abbrev pub decodedBy : List ℕ → List ℕ → ℕ → ℕ → Node → ℕ
+decodedBy params ends first next node.False = constantBy falseCode
+decodedBy params ends first next node.True = constantBy trueCode
+decodedBy params ends first next node.Empty = constantBy suffixCode
+decodedBy params ends first next (node.Param i) = packed paramSort i 0 0 0 0
+decodedBy params ends first next node.Head = unaryBy headSort headParamSort first next
+decodedBy params ends first next node.Tail = unaryBy tailSort tailParamSort first next
+decodedBy params ends first next node.Null = unaryBy nullSort nullParamSort first next
+decodedBy params ends first next node.If = placed ends (conditionalBy next) (paramOf next) first
+decodedBy params ends first next node.Cons = constantBy undecidedCode
+decodedBy params ends first next (node.Call g) = calledBy ends (argumentsOf params g) g first
+decodedBy params ends first next node.Unknown = constantBy undecidedCode
+
+-- the word at a place, by the words and the ends after it
+unfoldable pub wordBy : List ℕ → List ℕ → List ℕ → List ℕ → ℕ → ℕ
+wordBy code params ends words at = decodedBy params ends (at + 1) (getD words (at + 1) 0) (nodeOf (getD code at 0))
+
+-- the words at so many places from a place on, worked out backwards from the last, with the ends
+unfoldable pub wordsDown : List ℕ → List ℕ → List ℕ → ℕ → ℕ → List ℕ → List ℕ
+wordsDown code params ends zero at words = words
+wordsDown code params ends (suc k) at words =
+    let later = wordsDown code params ends k (at + 1) words in
+    set later at (wordBy code params (endsDown code params k (at + 1) ends) later at)
+
+-- ---- Functions
+
+-- word k of the functions: `functions` has first cells from 0 on and kinds bytes from 32 on
+unfoldable pub entryOf : List ℕ → ℕ → ℕ → ℕ
+entryOf functions n k =
+    let kinds = getD functions (32 + k / stride) 0 in
+    cond (eqb (k % stride) 0) (functionWord (getD functions (k / stride) 0) (bitOf 4 kinds) n) (kindWord (bitOf (k % stride - 1) kinds) n)
+
+-- the first so many words of functions written
+unfoldable pub entriesUpto : List ℕ → ℕ → ℕ → List ℕ → List ℕ
+entriesUpto functions n zero words = words
+entriesUpto functions n (suc k) words = set (entriesUpto functions n k words) (functionsFrom + k) (entryOf functions n k)
+
+-- ---- All words
+
+-- words with those of a program and of so many functions, at most 32, written; a program's bytes beyond the longest are
+-- passed over
+unfoldable pub wordsFilled : List ℕ → List ℕ → List ℕ → ℕ → ℕ → List ℕ → List ℕ
+wordsFilled program params functions count n words =
+    wordsDown program params (replicate mostBytes 0) (min mostBytes (length program)) 0
+    (entriesUpto functions n (stride * min count mostFunctions) words)

@@ -1,0 +1,207 @@
+// Decoding: a program's bytes into nodes, each byte decided once, and its functions into words.
+use crate::functions;
+use crate::functions::FUNCTIONS;
+use crate::functions::STRIDE;
+use crate::functions::WORDS;
+use crate::nodes;
+use rule::Node;
+ghost use mathlib.Core.Path.{_≡_};
+ghost use Prim.Native.Nat.{_*_, _<_, _≤_, min};
+ghost use lib.ListN.{length, replicate};
+ghost use Rattle.rule.specs.Form.{mostFunctions, mostParams, mostBytes};
+ghost use Rattle.decoding.specs.Words.{stride};
+ghost use Rattle.decoding.specs.Decoding.{endAt, endsAfter, argumentsOf, operandsOf, constantBy, unaryBy, conditionalBy, placed, calledBy};
+ghost use Rattle.decoding.specs.Decoding.{decodedBy, entryOf, entriesUpto, wordsDown, wordsFilled};
+
+// Where an expression ends that starts past the bytes of a program.
+const PAST: u16 = rule::MOST_BYTES as u16;
+
+// Writes the words of a program and of so many functions, at most 32. `functions` has their first cells from 0
+// on and their kinds bytes from 32 on; each has so many samples to work on. A program's bytes beyond the longest
+// are passed over.
+pub fn fill(
+    program: &[u8],
+    params: &[u8; 32],
+    functions: &[u64; 96],
+    count: u8,
+    n: u16,
+    words: &mut [u64; WORDS],
+)
+    ensures { λ _. ⌜ now (words .exit) ≡ wordsFilled (now (program .entry)) (now (params .entry)) (now (functions .entry)) count n (now (words .entry)) ⌝ }
+{
+    put_functions(functions, count, n, words);
+    put_nodes(program, params, words);
+}
+
+// Writes the words of so many functions, at most 32.
+fn put_functions(functions: &[u64; 96], count: u8, n: u16, words: &mut [u64; WORDS])
+    ensures { λ _. ⌜ now (words .exit) ≡ entriesUpto (now (functions .entry)) n (stride * min count mostFunctions) (now (words .entry)) ⌝ }
+{
+    let last = STRIDE * codes::smaller(count as usize, rule::MOST_FUNCTIONS as usize);
+    let mut k: usize = 0;
+    while k < last {
+        words[FUNCTIONS + k] = entry(functions, n, k);
+        k += 1;
+    }
+}
+
+// Word k of the functions.
+fn entry(functions: &[u64; 96], n: u16, k: usize) -> u64
+    requires { ⌜ k < 256 ⌝ }
+    ensures { λ r. ⌜ r ≡ entryOf (now (functions .entry)) n k ⌝ }
+{
+    let g = k / STRIDE;
+    let i = k % STRIDE;
+    let kinds = functions[32 + g];
+    if i == 0 {
+        return functions::function(functions[g], trace::bit(kinds, 4), n);
+    }
+    functions::kind(trace::bit(kinds, (i - 1) as u64), n)
+}
+
+// Decodes a program from its last byte to its first, each node by those after it. Bytes that begin no
+// expression are decoded too; nothing leads to them.
+fn put_nodes(program: &[u8], params: &[u8; 32], words: &mut [u64; WORDS])
+    ensures { λ _. ⌜ now (words .exit) ≡ wordsDown (now (program .entry)) (now (params .entry)) (replicate mostBytes 0) (min mostBytes (length (now (program .entry)))) 0 (now (words .entry)) ⌝ }
+{
+    let mut ends = [0u16; rule::MOST_BYTES];
+    let mut at = codes::smaller(rule::MOST_BYTES, program.len());
+    while 0 < at {
+        at -= 1;
+        let node = rule::node_of(program[at]);
+        let next = words[at + 1];
+        words[at] = decoded(params, &ends, (at + 1) as u16, next, node);
+        ends[at] = end_after(&ends, operands(params, node), (at + 1) as u16);
+    }
+}
+
+// The word of a node, by the place after it, the ends of the expressions from there on and the word there.
+fn decoded(
+    params: &[u8; 32],
+    ends: &[u16; rule::MOST_BYTES],
+    first: u16,
+    next: u64,
+    node: Node,
+) -> u64
+    ensures { λ r. ⌜ r ≡ decodedBy (now (params .entry)) (now (ends .entry)) first next node ⌝ }
+{
+    match node {
+        Node::False => constant(codes::FALSE),
+        Node::True => constant(codes::TRUE),
+        Node::Empty => constant(codes::SUFFIX),
+        Node::Param(i) => nodes::node(nodes::PARAM, i as u64, 0, 0, 0, 0),
+        Node::Head => unary(nodes::HEAD, nodes::HEAD_PARAM, first, next),
+        Node::Tail => unary(nodes::TAIL, nodes::TAIL_PARAM, first, next),
+        Node::Null => unary(nodes::NULL, nodes::NULL_PARAM, first, next),
+        Node::If => with_operands(ends, conditional(next), nodes::param(next) as u64, first),
+        Node::Cons => constant(codes::UNDECIDED),
+        Node::Call(g) => call(params, ends, g, first),
+        Node::Unknown => constant(codes::UNDECIDED),
+    }
+}
+
+// A constant, by the number of its outcome.
+fn constant(number: u16) -> u64
+    ensures { λ r. ⌜ r ≡ constantBy number ⌝ }
+{
+    nodes::node(nodes::CONSTANT, 0, number, 0, 0, 0)
+}
+
+// hd, tl or null, by the word of its operand.
+fn unary(sort: u64, of_param: u64, first: u16, operand: u64) -> u64
+    ensures { λ r. ⌜ r ≡ unaryBy sort «of_param» first operand ⌝ }
+{
+    if nodes::sort(operand) == nodes::PARAM {
+        return nodes::node(of_param, nodes::param(operand) as u64, first, 0, 0, 0);
+    }
+    nodes::node(sort, 0, first, 0, 0, 0)
+}
+
+// The sort of an if, by the word of its condition.
+fn conditional(condition: u64) -> u64
+    ensures { λ r. ⌜ r ≡ conditionalBy condition ⌝ }
+{
+    let sort = nodes::sort(condition);
+    if sort == nodes::PARAM {
+        return nodes::IF_PARAM;
+    }
+    if sort == nodes::NULL_PARAM {
+        return nodes::IF_NULL;
+    }
+    if sort == nodes::HEAD_PARAM {
+        return nodes::IF_HEAD;
+    }
+    nodes::IF
+}
+
+// A call of function g.
+fn call(params: &[u8; 32], ends: &[u16; rule::MOST_BYTES], g: u8, first: u16) -> u64
+    ensures { λ r. ⌜ r ≡ calledBy (now (ends .entry)) (argumentsOf (now (params .entry)) g) g first ⌝ }
+{
+    let count = arguments(params, g);
+    let sort = if count == 1 {
+        nodes::CALL_ONE
+    } else {
+        nodes::CALL
+    };
+    with_operands(ends, sort, (g % 32) as u64 + 32 * count, first)
+}
+
+// A node whose operands stand one after the other from a place on.
+fn with_operands(ends: &[u16; rule::MOST_BYTES], sort: u64, small: u64, first: u16) -> u64
+    ensures { λ r. ⌜ r ≡ placed (now (ends .entry)) sort small first ⌝ }
+{
+    let second = end_at(ends, first);
+    let third = end_at(ends, second);
+    let fourth = end_at(ends, third);
+    nodes::node(sort, small, first, second, third, fourth)
+}
+
+// Where the expression at a place ends.
+fn end_at(ends: &[u16; rule::MOST_BYTES], at: u16) -> u16
+    ensures { λ r. ⌜ r ≡ endAt (now (ends .entry)) at ⌝ }
+{
+    if at < PAST { ends[at as usize] } else { PAST }
+}
+
+// The end of so many expressions, one after the other from a place on.
+fn end_after(ends: &[u16; rule::MOST_BYTES], count: u64, first: u16) -> u16
+    ensures { λ r. ⌜ r ≡ endsAfter (now (ends .entry)) count first ⌝ }
+{
+    let mut left = count;
+    let mut place = first;
+    while 0 < left {
+        place = end_at(ends, place);
+        left -= 1;
+    }
+    place
+}
+
+// How many operands a node has.
+fn operands(params: &[u8; 32], node: Node) -> u64
+    ensures { λ r. ⌜ r ≡ operandsOf (now (params .entry)) node ⌝ }
+{
+    match node {
+        Node::False => 0,
+        Node::True => 0,
+        Node::Empty => 0,
+        Node::Param(_) => 0,
+        Node::Head => 1,
+        Node::Tail => 1,
+        Node::Null => 1,
+        Node::If => 3,
+        Node::Cons => 0,
+        Node::Call(g) => arguments(params, g),
+        Node::Unknown => 0,
+    }
+}
+
+// How many arguments a call of function g has.
+fn arguments(params: &[u8; 32], g: u8) -> u64
+    ensures { λ r. ⌜ (r ≡ argumentsOf (now (params .entry)) g) × (r ≤ mostParams) ⌝ }
+{
+    if 32 <= g {
+        return 0;
+    }
+    rule::at_most_four(params[g as usize])
+}

@@ -1,0 +1,228 @@
+// The outcome of a decoded expression, with calls looked up in a table. Nodes and functions stand in one lent array, the
+// trace and the parameter values in others; an outcome is its number.
+use decoding::functions;
+use decoding::functions::FUNCTIONS;
+use decoding::functions::STRIDE;
+use decoding::functions::WORDS;
+use decoding::nodes;
+ghost use mathlib.Core.Path.{_≡_};
+ghost use Prim.Native.Nat.{_<_};
+ghost use lib.ListN.{getD};
+ghost use Rattle.decoding.specs.Words.{paramOf};
+ghost use Rattle.rule.specs.Form.{mostDepth};
+ghost use Rattle.evaluator.specs.{digitBound, mostIndex, nextIndex, Digit, lookupBy, branchAt, callAt, callOneAt, evalWord};
+
+// The number of the outcome of a body, by its word. `env` has the numbers of the parameter values, and at 4 the
+// length of the trace.
+pub fn outcome(
+    words: &[u64; WORDS],
+    trace: &[u8; codes::TRACE_BYTES],
+    table: &[u16],
+    env: &[u16; 5],
+    body: u64,
+) -> u16
+    ensures { λ r. ⌜ r ≡ evalWord (now (words .entry)) (now (trace .entry)) (now (table .entry)) (now (env .entry)) mostDepth body ⌝ }
+{
+    eval(words, trace, &table, env, rule::MOST_DEPTH, body)
+}
+
+// The number of the outcome of a node. The table is a reference to its slice: it goes from call to call as one
+// word. The sorts stand here by number, all sixteen, so that no range is tested.
+fn eval(
+    words: &[u64; WORDS],
+    trace: &[u8; codes::TRACE_BYTES],
+    table: &&[u16],
+    env: &[u16; 5],
+    depth: u8,
+    node: u64,
+) -> u16
+    ensures { λ r. ⌜ r ≡ evalWord (now (words .entry)) (now (trace .entry)) (now (now (table .entry))) (now (env .entry)) depth node ⌝ }
+{
+    if depth == 0 {
+        return codes::UNDECIDED;
+    }
+    let left = depth - 1;
+    let sort = nodes::sort(node);
+    match sort {
+        0 => nodes::constant(node),
+        1 => param(env, node),
+        2 => codes::head(
+            trace,
+            env[4],
+            operand(words, trace, table, env, left, nodes::first(words, node)),
+        ),
+        3 => codes::tail(operand(words, trace, table, env, left, nodes::first(words, node))),
+        4 => codes::null(operand(words, trace, table, env, left, nodes::first(words, node))),
+        5 => codes::head(trace, env[4], param(env, node)),
+        6 => codes::tail(param(env, node)),
+        7 => codes::null(param(env, node)),
+        8 => branch(
+            words,
+            trace,
+            table,
+            env,
+            left,
+            node,
+            eval(words, trace, table, env, left, nodes::first(words, node)),
+        ),
+        9 => branch(words, trace, table, env, left, node, param(env, node)),
+        10 => branch(
+            words,
+            trace,
+            table,
+            env,
+            left,
+            node,
+            codes::null(param(env, node)),
+        ),
+        11 => branch(
+            words,
+            trace,
+            table,
+            env,
+            left,
+            node,
+            codes::head(trace, env[4], param(env, node)),
+        ),
+        12 => call(words, trace, table, env, left, node),
+        13 => call_one(words, trace, table, env, left, node),
+        14 => codes::UNDECIDED,
+        15 => codes::UNDECIDED,
+        _ => codes::UNDECIDED,
+    }
+}
+
+// As eval; a parameter, its tl and its hd are taken at once.
+fn operand(
+    words: &[u64; WORDS],
+    trace: &[u8; codes::TRACE_BYTES],
+    table: &&[u16],
+    env: &[u16; 5],
+    depth: u8,
+    node: u64,
+) -> u16
+    ensures { λ r. ⌜ r ≡ evalWord (now (words .entry)) (now (trace .entry)) (now (now (table .entry))) (now (env .entry)) depth node ⌝ }
+{
+    if depth == 0 {
+        return codes::UNDECIDED;
+    }
+    let sort = nodes::sort(node);
+    if sort == nodes::TAIL_PARAM {
+        return codes::tail(param(env, node));
+    }
+    if sort == nodes::PARAM {
+        return param(env, node);
+    }
+    if sort == nodes::HEAD_PARAM {
+        return codes::head(trace, env[4], param(env, node));
+    }
+    eval(words, trace, table, env, depth, node)
+}
+
+// The branch that a condition's outcome chooses.
+fn branch(
+    words: &[u64; WORDS],
+    trace: &[u8; codes::TRACE_BYTES],
+    table: &&[u16],
+    env: &[u16; 5],
+    depth: u8,
+    node: u64,
+    chosen: u16,
+) -> u16
+    ensures { λ r. ⌜ r ≡ branchAt (now (words .entry)) (now (trace .entry)) (now (now (table .entry))) (now (env .entry)) depth node chosen ⌝ }
+{
+    if chosen == codes::TRUE {
+        return eval(words, trace, table, env, depth, nodes::second(words, node));
+    }
+    if chosen == codes::FALSE {
+        return eval(words, trace, table, env, depth, nodes::third(words, node));
+    }
+    chosen
+}
+
+// A call: its arguments left to right, then what the table holds for the callee on them. A value that is none of
+// its parameter's kind, undecided and errors too, is the outcome.
+fn call(
+    words: &[u64; WORDS],
+    trace: &[u8; codes::TRACE_BYTES],
+    table: &&[u16],
+    env: &[u16; 5],
+    depth: u8,
+    node: u64,
+) -> u16
+    ensures { λ r. ⌜ r ≡ callAt (now (words .entry)) (now (trace .entry)) (now (now (table .entry))) (now (env .entry)) depth node ⌝ }
+{
+    let place = FUNCTIONS + STRIDE * nodes::callee(node);
+    let count = nodes::count(node);
+    let mut rest = nodes::places(node);
+    let mut index: u64 = 0;
+    let mut i: u64 = 0;
+    while i < count {
+        let value = operand(words, trace, table, env, depth, nodes::at(words, rest));
+        let kind = words[place + 1 + i as usize];
+        let digit = digit(kind, value);
+        if functions::values(kind) <= digit {
+            return value;
+        }
+        index = next_index(index, functions::values(kind), digit);
+        rest = rest / 4096;
+        i += 1;
+    }
+    lookup(words[place], table, index)
+}
+
+// As call, for one argument.
+fn call_one(
+    words: &[u64; WORDS],
+    trace: &[u8; codes::TRACE_BYTES],
+    table: &&[u16],
+    env: &[u16; 5],
+    depth: u8,
+    node: u64,
+) -> u16
+    ensures { λ r. ⌜ r ≡ callOneAt (now (words .entry)) (now (trace .entry)) (now (now (table .entry))) (now (env .entry)) depth node ⌝ }
+{
+    let place = FUNCTIONS + STRIDE * nodes::callee(node);
+    let value = operand(words, trace, table, env, depth, nodes::first(words, node));
+    let kind = words[place + 1];
+    let digit = digit(kind, value);
+    if functions::values(kind) <= digit {
+        return value;
+    }
+    lookup(words[place], table, digit)
+}
+
+// The value of the parameter that a node names.
+fn param(env: &[u16; 5], node: u64) -> u16
+    ensures { λ r. ⌜ r ≡ getD (now (env .entry)) (paramOf node) 0 ⌝ }
+{
+    env[nodes::param(node)]
+}
+
+// The place of a value among those of its kind; what is no value of it comes after them all.
+fn digit(kind: u64, value: u16) -> u64
+    ensures { λ r. ⌜ Digit kind value r ⌝ }
+{
+    std::num::wrapping_sub_u64(value as u64, functions::lowest(kind))
+}
+
+// One digit more of a configuration's number; the numbers of a table that is lent stay far below 2 ^ 32.
+fn next_index(index: u64, radix: u64, digit: u64) -> u64
+    requires { ⌜ (radix < digitBound) × (digit < digitBound) ⌝ }
+    ensures { λ r. ⌜ (r ≡ nextIndex index radix digit) × (r < mostIndex) ⌝ }
+{
+    (index % 4294967296) * radix + digit
+}
+
+// What the table holds for a configuration of a function, by the function's word.
+fn lookup(function: u64, table: &&[u16], index: u64) -> u16
+    requires { ⌜ index < mostIndex ⌝ }
+    ensures { λ r. ⌜ r ≡ lookupBy function (now (now (table .entry))) index ⌝ }
+{
+    let cell = (functions::first_cell(function) + index) as usize;
+    let cells = *table;
+    if cells.len() <= cell {
+        return codes::UNDECIDED;
+    }
+    functions::held(function, cells[cell])
+}
