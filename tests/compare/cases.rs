@@ -1,9 +1,12 @@
 //! The kinds of cases. Each lends memory to the library and compares all it leaves with the oracle.
 
+pub mod bodies;
 mod evaluation;
+mod executable;
 mod limits;
 mod listing;
 mod papers;
+mod passes;
 mod program;
 mod record;
 mod ring;
@@ -21,6 +24,7 @@ pub struct Bench<'a> {
     pub round: u64,
     pub exact: bool,
     pub listing: Option<&'a str>,
+    pub cases: Option<&'a str>,
 }
 
 /// What a kind of case gives: nothing, or the difference found.
@@ -32,7 +36,10 @@ const SHOWN: usize = 256;
 /// A kind of case: its name and what runs it in a round.
 pub type Kind = (&'static str, fn(&mut Bench) -> Compared);
 
-pub const KINDS: [Kind; 10] = [
+/// The kinds that together meet all of the language.
+pub const BODIES: [&str; 3] = ["pairs", "wide", "longest"];
+
+pub const KINDS: [Kind; 14] = [
     ("papers", papers::run),
     ("check", program::run),
     ("evaluate", evaluation::run),
@@ -43,9 +50,23 @@ pub const KINDS: [Kind; 10] = [
     ("check-record", record::run_check),
     ("limits", limits::run),
     ("listing", listing::run),
+    ("pairs", bodies::run_pairs),
+    ("wide", bodies::run_wide),
+    ("longest", bodies::run_longest),
+    ("passes", passes::run),
 ];
 
+/// With exact buffers, which are for slow runs, some kinds are run so many times as seldom.
+const SELDOM: u64 = 20;
+
 impl Bench<'_> {
+    /// The turn of what is run in every so many rounds, if this round is one of them.
+    fn turn(&self, every: u64) -> Option<usize> {
+        let every = if self.exact { SELDOM * every } else { every };
+        let turn = self.round.is_multiple_of(every);
+        turn.then_some((self.round / every) as usize)
+    }
+
     /// Lends memory with this content.
     fn lend<T: Word>(&mut self, content: &[T]) -> Lent<T> {
         let null = self.random.one_in(2);

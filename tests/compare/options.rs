@@ -12,12 +12,14 @@ pub struct Options {
     pub loud: bool,
     /// The listing executable, if it is to be run.
     pub listing: Option<String>,
+    /// The executable that runs scripts of cases, if it is to be run.
+    pub cases: Option<String>,
     /// The kinds to run; none named means all.
     pub only: Vec<String>,
 }
 
 pub const USAGE: &str = "compare [--seed S] [--from R] [--rounds R] [--exact] [--loud]
-        [--listing PATH] [--only KIND,KIND]";
+        [--listing PATH] [--cases PATH] [--only KIND,KIND]";
 const SEED: u64 = 20_260_101;
 const ROUNDS: u64 = 6_000;
 
@@ -34,6 +36,7 @@ impl Options {
             exact: false,
             loud: false,
             listing: None,
+            cases: None,
             only: Vec::new(),
         };
         while let Some(word) = words.next() {
@@ -44,6 +47,7 @@ impl Options {
                 "--exact" => options.exact = true,
                 "--loud" => options.loud = true,
                 "--listing" => options.listing = Some(words.next().ok_or("a path is missing")?),
+                "--cases" => options.cases = Some(words.next().ok_or("a path is missing")?),
                 "--only" => options.only = names(words.next().ok_or("a kind is missing")?),
                 other => return Err(format!("unknown option {other}")),
             }
@@ -54,11 +58,6 @@ impl Options {
     /// Whether a kind of case is to be run.
     pub fn wants(&self, kind: &str) -> bool {
         self.only.is_empty() || self.only.iter().any(|name| name == kind)
-    }
-
-    /// Whether each refusal number must have been met.
-    pub fn full(&self) -> bool {
-        self.only.is_empty() && self.rounds >= FULL
     }
 }
 

@@ -48,6 +48,13 @@ impl Random {
         values[self.below(values.len())]
     }
 
+    /// Puts values into any order.
+    pub fn shuffle<T>(&mut self, values: &mut [T]) {
+        for place in (1..values.len()).rev() {
+            values.swap(place, self.below(place + 1));
+        }
+    }
+
     pub fn byte(&mut self) -> u8 {
         (self.word() >> 40) as u8
     }

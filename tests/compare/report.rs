@@ -2,6 +2,7 @@
 
 use std::collections::BTreeMap;
 
+use super::met::Met;
 use super::oracle::search::Evaluation;
 
 /// The largest refusal number.
@@ -14,6 +15,7 @@ pub struct Report {
     verdicts: [u64; 5],
     most_passes: u32,
     most_cells: usize,
+    pub met: Met,
 }
 
 impl Report {
@@ -36,19 +38,20 @@ impl Report {
     }
 
     /// The refusal numbers that no case met.
-    pub fn never_met(&self) -> Vec<u32> {
+    pub fn never_answered(&self) -> Vec<String> {
         let met = |number: &u32| {
             self.kinds
                 .values()
                 .any(|counts| counts.contains_key(number))
         };
-        (1..=LAST_NUMBER).filter(|number| !met(number)).collect()
+        let never = (1..=LAST_NUMBER).filter(|number| !met(number));
+        never.map(|number| format!("number {number}")).collect()
     }
 
-    /// One line for each kind of case, and one on the evaluations.
+    /// One line for each kind of case, one on the evaluations, and what they met of the language.
     pub fn lines(&self) -> String {
         let lines = self.kinds.iter().map(|(kind, counts)| line(kind, counts));
-        lines.collect::<String>() + &self.evaluations()
+        lines.collect::<String>() + &self.evaluations() + &self.met.lines()
     }
 
     /// The line on all evaluations.

@@ -19,7 +19,17 @@ pub fn run(bench: &mut Bench) -> Compared {
 }
 
 /// Compares an evaluation.
-pub fn compare(bench: &mut Bench, program: &[u8], trace: &Trace, mut table: Vec<u16>) -> Compared {
+pub fn compare(bench: &mut Bench, program: &[u8], trace: &Trace, table: Vec<u16>) -> Compared {
+    table_left(bench, program, trace, table).map(|_| ())
+}
+
+/// Compares an evaluation; gives the table as both leave it.
+pub fn table_left(
+    bench: &mut Bench,
+    program: &[u8],
+    trace: &Trace,
+    mut table: Vec<u16>,
+) -> Result<Vec<u16>, String> {
     let before = table.clone();
     let mut lent_table = bench.lend(&table);
     let mut answer = bench.random.words(2);
@@ -40,7 +50,8 @@ pub fn compare(bench: &mut Bench, program: &[u8], trace: &Trace, mut table: Vec<
     found.lent("trace", &lent_trace, &trace.bytes);
     found.lent("table", &lent_table, &table);
     found.lent("answer", &lent_answer, &answer);
-    bench.close(found, want, || story(program, trace, &before))
+    bench.close(found, want, || story(program, trace, &before))?;
+    Ok(table)
 }
 
 /// The number wanted; table and answer become what the library must leave.

@@ -101,11 +101,7 @@ fn shapes(random: &mut Random) -> Vec<Shape> {
         _ => 32,
     };
     let lists = random.pick(&[0, 1, 1, 1, 1, 1, 2, 2, 2, 3, 4]);
-    let main = Shape {
-        parameters: vec![true],
-        result: false,
-    };
-    let mut shapes = vec![main];
+    let mut shapes = vec![Shape::main()];
     shapes.extend((1..count).map(|_| shape(random, lists)));
     shapes
 }
@@ -151,8 +147,21 @@ fn part(shape: &Shape, body: Vec<u8>) -> Part {
     }
 }
 
+/// The bytes of a program of functions with these kinds and bodies.
+pub fn of_parts(shapes: &[Shape], bodies: Vec<Vec<u8>>) -> Vec<u8> {
+    let parts = shapes.iter().zip(bodies);
+    let parts = parts.map(|(shape, body)| part(shape, body)).collect();
+    Draft { parts, count: None }.bytes()
+}
+
 /// A body of at most so many bytes.
-fn body(random: &mut Random, shapes: &[Shape], own: usize, climb: bool, most: usize) -> Vec<u8> {
+pub fn body(
+    random: &mut Random,
+    shapes: &[Shape],
+    own: usize,
+    climb: bool,
+    most: usize,
+) -> Vec<u8> {
     let mut writer = Writer {
         random,
         shapes,

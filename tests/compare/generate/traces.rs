@@ -132,6 +132,12 @@ pub fn table(random: &mut Random, program: &[u8], n: u64) -> Vec<u16> {
     garbage(random, length)
 }
 
+/// A table with so many cells or some more, filled with garbage.
+pub fn sufficient(random: &mut Random, needed: usize) -> Vec<u16> {
+    let more = random.pick(&[0, 0, 1, 40]);
+    garbage(random, needed + more)
+}
+
 /// Cells before use: anything, likely outcomes, all the same.
 pub fn garbage(random: &mut Random, length: usize) -> Vec<u16> {
     let plain = random.pick(&[0, 1, 2, 3, 4, 5, 0xFFFF]);

@@ -12,10 +12,29 @@ pub const IF: u8 = 0x23;
 pub const CALL: u8 = 0x80;
 
 /// A function's kinds; true is a list.
-#[derive(Clone)]
+#[derive(Clone, Debug)]
 pub struct Shape {
     pub parameters: Vec<bool>,
     pub result: bool,
+}
+
+impl Shape {
+    /// Any kinds; one parameter in so many is a list.
+    pub fn any(random: &mut Random, lists: usize) -> Self {
+        let count = random.between(0, 4);
+        Shape {
+            parameters: (0..count).map(|_| random.one_in(lists)).collect(),
+            result: random.one_in(2),
+        }
+    }
+
+    /// Main's kinds.
+    pub fn main() -> Self {
+        Shape {
+            parameters: vec![true],
+            result: false,
+        }
+    }
 }
 
 /// Writes the body of one function.
