@@ -65,10 +65,10 @@ BENCH_CC = gcc clang
 # Turns of each workload; empty for the program's own number.
 BENCH_TURNS =
 
-bench: ## time the library beside plain C: one table for each C compiler there is
+bench: ## time the library beside the same work in C: one table for each C compiler there is
 	@tools/prove staticlib gateway
 	@for c in $(BENCH_CC); do \
 	  command -v $$c >/dev/null || continue; \
-	  $$c -std=c99 -Wall -Wextra -O3 -Iinclude bench/*.c target/staticlib/libgateway.a -o target/bench || exit 1; \
-	  echo "plain C by $$c -O3"; target/bench $(BENCH_TURNS) || exit 1; \
+	  $$c -std=c99 -pedantic -Wall -Wextra -O3 -Iinclude bench/*.c target/staticlib/libgateway.a -o target/bench || exit 1; \
+	  echo "C by $$c -O3"; target/bench $(BENCH_TURNS) || exit 1; \
 	done

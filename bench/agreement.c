@@ -4,12 +4,15 @@
 #include "baseline.h"
 #include "sides.h"
 
-const struct side library = {sik_check_program, sik_evaluate, sik_read_record, sik_check_record};
-const struct side plain = {plain_check_program, plain_evaluate, plain_read_record, plain_check_record};
+const struct side side[SIDES] = {
+    {"the library", sik_check_program, sik_evaluate, sik_read_record, sik_check_record},
+    {"plain C", plain_check_program, plain_evaluate, plain_read_record, plain_check_record},
+    {"decoding C", plain_check_program, decoded_evaluate, plain_read_record, decoded_check_record},
+};
 
-/* The tables of the two sides, and how many calls were compared. */
+/* The tables of the sides, and how many calls were compared. */
 struct tables {
-    uint16_t *one, *two;
+    uint16_t *const *of;
     uint64_t calls;
 };
 
@@ -19,69 +22,83 @@ static void fail(const char *what)
     exit(1);
 }
 
-/* Counts a call of both sides, and ends the program if their numbers or what else they gave differ. */
-static void same(struct tables *t, int equal, const char *what, uint32_t one, uint32_t two)
-{
-    t->calls++;
-    if (equal && one == two)
-        return;
-    printf("numbers %u and %u: the library and plain C differ in ", (unsigned)one, (unsigned)two);
-    fail(what);
-}
+/* What a call of one side gave, the table apart. */
+struct given {
+    uint32_t number;
+    uint64_t answer[9];
+};
 
 enum { SPOILT = 0xAAAA };
 
-/* Gives both tables the same content, a number that no cell holds after an evaluation. */
-static void spoil(struct tables *t, size_t cells)
+static void spoil(struct given *g) { memset(g->answer, SPOILT & 255, sizeof g->answer); }
+
+/* Gives a side's table a content that no cell has after an evaluation. */
+static void spoil_cells(const struct tables *t, unsigned i, size_t cells)
 {
-    memset(t->one, 0xAA, cells * sizeof *t->one);
-    memset(t->two, 0xAA, cells * sizeof *t->two);
+    memset(t->of[i], SPOILT & 255, cells * sizeof **t->of);
 }
 
-static int same_cells(const struct tables *t, size_t cells) { return !memcmp(t->one, t->two, cells * sizeof *t->one); }
+/* Counts a call of so many sides, and ends the program if one of them gave something else than the library: a number,
+ * so many places of an answer, so many cells. */
+static void compare(struct tables *t, const char *what, const struct given *g, unsigned sides, size_t places,
+                    size_t cells)
+{
+    t->calls++;
+    for (unsigned i = 1; i < sides; i++) {
+        if (g[i].number == g->number && !memcmp(g[i].answer, g->answer, places * sizeof *g->answer)
+            && !memcmp(t->of[i], *t->of, cells * sizeof **t->of))
+            continue;
+        printf("%s, numbers %u and %u: the library differs from ", what, (unsigned)g->number, (unsigned)g[i].number);
+        fail(side[i].name);
+    }
+}
 
 /* ---- One call of each side */
 
-static uint32_t evaluate(struct tables *t, const struct workload *w, unsigned n, size_t cells)
+/* In a table of so many cells, of which the sides are told a part. */
+static uint32_t evaluate(struct tables *t, struct bytes program, struct bytes trace, unsigned n, size_t lent,
+                         size_t told)
 {
-    const struct bytes *p = &w->item[0], *s = &w->item[1];
-    uint64_t a[3] = {9, 9, 9}, b[3] = {9, 9, 9};
-    uint32_t one, two;
-    spoil(t, CELLS_LENT);
-    one = library.evaluate(p->at, p->len, s->at, s->len, n, t->one, cells, a);
-    two = plain.evaluate(p->at, p->len, s->at, s->len, n, t->two, cells, b);
-    same(t, a[0] == b[0] && a[1] == b[1] && same_cells(t, CELLS_LENT), "evaluating", one, two);
-    return one;
+    struct given g[SIDES];
+    for (unsigned i = 0; i < SIDES; i++) {
+        spoil(&g[i]);
+        spoil_cells(t, i, lent);
+        g[i].number = side[i].evaluate(program.at, program.len, trace.at, trace.len, n, t->of[i], told, g[i].answer);
+    }
+    compare(t, "evaluating", g, SIDES, SIK_EVALUATED_SIZE, lent);
+    return g->number;
 }
 
 static uint32_t check_program(struct tables *t, const uint8_t *program, size_t len)
 {
-    uint32_t one = library.check_program(program, len), two = plain.check_program(program, len);
-    same(t, 1, "checking a program", one, two);
-    return one;
+    struct given g[READERS];
+    for (unsigned i = 0; i < READERS; i++)
+        g[i].number = side[i].check_program(program, len);
+    compare(t, "checking a program", g, READERS, 0, 0);
+    return g->number;
 }
 
 /* Answers how many bytes stand before the record, or SIZE_MAX where it is refused. */
 static size_t read_record(struct tables *t, const uint8_t *bytes, size_t len)
 {
-    uint64_t a[9], b[9];
-    uint32_t one, two;
-    memset(a, 0xAA, sizeof a);
-    memset(b, 0xAA, sizeof b);
-    one = library.read_record(bytes, len, a);
-    two = plain.read_record(bytes, len, b);
-    same(t, !memcmp(a, b, sizeof a), "reading a record", one, two);
-    return one ? SIZE_MAX : a[8];
+    struct given g[READERS];
+    for (unsigned i = 0; i < READERS; i++) {
+        spoil(&g[i]);
+        g[i].number = side[i].read_record(bytes, len, g[i].answer);
+    }
+    compare(t, "reading a record", g, READERS, SIK_PARTS_SIZE, 0);
+    return g->number ? SIZE_MAX : g->answer[SIK_PARTS_BEFORE];
 }
 
 static void check_record(struct tables *t, const uint8_t *bytes, size_t len)
 {
-    uint64_t a[1] = {9}, b[1] = {9};
-    uint32_t one, two;
-    spoil(t, LISTING_CELLS);
-    one = library.check_record(bytes, len, t->one, LISTING_CELLS, a);
-    two = plain.check_record(bytes, len, t->two, LISTING_CELLS, b);
-    same(t, a[0] == b[0] && same_cells(t, LISTING_CELLS), "checking a record", one, two);
+    struct given g[SIDES];
+    for (unsigned i = 0; i < SIDES; i++) {
+        spoil(&g[i]);
+        spoil_cells(t, i, LISTING_CELLS);
+        g[i].number = side[i].check_record(bytes, len, t->of[i], LISTING_CELLS, g[i].answer);
+    }
+    compare(t, "checking a record", g, SIDES, SIK_CHECKED_SIZE, LISTING_CELLS);
 }
 
 /* ---- Faults */
@@ -173,13 +190,15 @@ static void check_limits(struct tables *t)
  * short for n or more than 4,095 samples. */
 static void agree_evaluate(struct tables *t, const struct workload *w)
 {
+    struct bytes program = w->item[0], trace = w->item[1];
     size_t cells = CELLS_LENT;
-    uint32_t number = evaluate(t, w, w->n, cells);
-    while (cells > 0 && t->one[cells - 1] == SPOILT)
+    uint32_t number = evaluate(t, program, trace, w->n, CELLS_LENT, CELLS_LENT);
+    while (cells > 0 && t->of[LIBRARY][cells - 1] == SPOILT)
         cells--;
-    if (number || evaluate(t, w, w->n, cells) || evaluate(t, w, w->n, cells - 1) != SIK_REFUSED_TABLE_SHORT
-        || evaluate(t, w, w->n + 8, CELLS_LENT) != SIK_REFUSED_TRACE_LENGTH
-        || (w->n == 4095 && evaluate(t, w, 4096, CELLS_LENT) != SIK_REFUSED_TRACE_LENGTH))
+    if (number || evaluate(t, program, trace, w->n, CELLS_LENT, cells)
+        || evaluate(t, program, trace, w->n, CELLS_LENT, cells - 1) != SIK_REFUSED_TABLE_SHORT
+        || evaluate(t, program, trace, w->n + 8, CELLS_LENT, CELLS_LENT) != SIK_REFUSED_TRACE_LENGTH
+        || (w->n == 4095 && evaluate(t, program, trace, 4096, CELLS_LENT, CELLS_LENT) != SIK_REFUSED_TRACE_LENGTH))
         fail("a workload is refused that should not be, or the other way round");
 }
 
@@ -194,9 +213,9 @@ static void agree_walk(struct tables *t, const struct bytes *archive)
     }
 }
 
-uint64_t agree(const struct workload *w, uint16_t *one, uint16_t *two)
+uint64_t agree(const struct workload *w, uint16_t *const table[SIDES])
 {
-    struct tables t = {one, two, 0};
+    struct tables t = {table, 0};
     switch (w->sort) {
     case EVALUATE:
         agree_evaluate(&t, w);
@@ -219,6 +238,25 @@ uint64_t agree(const struct workload *w, uint16_t *one, uint16_t *two)
             record_faults(&t, &w->item[i]);
         }
         break;
+    }
+    return t.calls;
+}
+
+/* ---- At random */
+
+enum { RANDOM_PROGRAMS = 20000, RANDOM_SAMPLES = 40 };
+
+uint64_t agree_at_random(uint16_t *const table[SIDES])
+{
+    struct tables t = {table, 0};
+    uint32_t seed = 1;
+    uint8_t program[MOST_RANDOM], trace[RANDOM_SAMPLES / 8];
+    for (unsigned i = 0; i < RANDOM_PROGRAMS; i++) {
+        struct bytes p = random_program(&seed, program);
+        unsigned n = random_below(&seed, random_below(&seed, 4) ? 5 : RANDOM_SAMPLES + 1);
+        for (unsigned j = 0; j < sizeof trace; j++)
+            trace[j] = random_below(&seed, 256);
+        evaluate(&t, p, (struct bytes){trace, (n + 7) / 8}, n, LISTING_CELLS, LISTING_CELLS);
     }
     return t.calls;
 }

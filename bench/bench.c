@@ -1,11 +1,11 @@
-/* Times the library beside the same work in plain C, by turns in one process, and prints a table of both.
+/* Times the library beside the same work in C, by turns in one process, and prints a table of all sides.
  *
  *   bench [turns]
  *
- * First all answers of the two are compared. Then each workload is run in turns: in a turn the library and plain C each
- * do the workload so many times that it takes a hundredth of a second or more, in the same table; who goes first
- * changes from turn to turn. Where a turn takes less than a tenth of a second there are five times as many. The least
- * processor time of the turns is taken for each.
+ * First all answers of the sides are compared. Then each workload is run in turns: in a turn each side does the
+ * workload so many times that it takes a hundredth of a second or more, in the same table; who goes first changes from
+ * turn to turn. Where a turn takes less than a tenth of a second there are five times as many. The least processor time
+ * of the turns is taken for each.
  */
 #define _POSIX_C_SOURCE 199309L
 #include <stdio.h>
@@ -16,9 +16,6 @@
 enum { TURNS = 11, MOST_TURNS = 1001, MORE_TURNS = 5, ALL_TURNS = MOST_TURNS * MORE_TURNS };
 
 static const double LEAST_TURN = 0.01, SHORT_TURN = 0.1;
-
-/* The library's times are at 0, those of plain C at 1. */
-static const struct side *const sides[2] = {&library, &plain};
 
 static double seconds(void)
 {
@@ -71,89 +68,133 @@ static int by_size(const void *a, const void *b)
     return (x > y) - (x < y);
 }
 
-/* What a workload amounts to: visited cells or bytes, and passes where it evaluates. */
+/* How many sides do a workload. */
+static unsigned sides_of(const struct workload *w) { return w->sort == EVALUATE || w->sort == WALK ? SIDES : READERS; }
+
+/* What a workload amounts to: visited cells, bytes or calls, and passes where it evaluates. */
 static double units_of(const struct workload *w, uint16_t *table, char passes[11])
 {
     const struct bytes *item = w->item;
     uint64_t answer[3] = {0, 0, 0};
     double bytes = 0;
     if (w->sort == EVALUATE) {
-        plain.evaluate(item[0].at, item[0].len, item[1].at, item[1].len, w->n, table, CELLS_LENT, answer);
+        side[PLAIN].evaluate(item[0].at, item[0].len, item[1].at, item[1].len, w->n, table, CELLS_LENT, answer);
         snprintf(passes, 11, "%u", (unsigned)answer[1]);
-        return answer[2];
+        return w->unit == PER_CALL ? 1 : answer[2];
     }
     for (size_t i = 0; i < w->items; i++)
         bytes += item[i].len;
     return bytes;
 }
 
-/* Runs a workload in turns, and sorts the times taken; answers how often it was done in a turn. */
-static unsigned take_turns(const struct workload *w, uint16_t *table, unsigned *turns, double taken[2][ALL_TURNS])
+/* Finds how often each side does a workload in a turn; answers the time of the side that takes longest. */
+static double turn_of(const struct workload *w, uint16_t *table, unsigned *times)
 {
-    uint64_t sum[3] = {0, 0, 0};
-    unsigned times = 1;
-    double once;
-    while ((once = time_of(&plain, w, table, times, &sum[2])) < LEAST_TURN)
-        times *= 2;
-    *turns *= once < SHORT_TURN ? MORE_TURNS : 1;
-    for (unsigned turn = 0; turn < *turns; turn++)
-        for (unsigned i = 0; i < 2; i++) {
-            unsigned side = (turn + i) % 2;
-            taken[side][turn] = time_of(sides[side], w, table, times, &sum[side]);
+    double least = 0, most = 0;
+    uint64_t sum = 0;
+    for (*times = 1; least < LEAST_TURN; *times *= least < LEAST_TURN ? 2 : 1)
+        for (unsigned s = 0; s < sides_of(w); s++) {
+            double taken = time_of(&side[s], w, table, *times, &sum);
+            least = s == 0 || taken < least ? taken : least;
+            most = s == 0 || taken > most ? taken : most;
         }
-    if (sum[0] != sum[1]) {
-        printf("%s: the library and plain C differ\n", w->name);
-        exit(1);
-    }
-    qsort(taken[0], *turns, sizeof **taken, by_size);
-    qsort(taken[1], *turns, sizeof **taken, by_size);
-    return times;
+    return most;
 }
 
-/* Measures a workload and prints its row; answers the median turn over the least, of the side where it is larger. */
+/* Runs a workload in turns, and sorts the times taken. */
+static void take_turns(const struct workload *w, uint16_t *table, unsigned times, unsigned turns,
+                       double taken[SIDES][ALL_TURNS])
+{
+    const unsigned sides = sides_of(w);
+    uint64_t sum[SIDES] = {0};
+    for (unsigned turn = 0; turn < turns; turn++)
+        for (unsigned i = 0; i < sides; i++) {
+            unsigned s = (turn + i) % sides;
+            taken[s][turn] = time_of(&side[s], w, table, times, &sum[s]);
+        }
+    for (unsigned s = 0; s < sides; s++) {
+        if (sum[s] != sum[LIBRARY]) {
+            printf("%s: the library and %s differ\n", w->name, side[s].name);
+            exit(1);
+        }
+        qsort(taken[s], turns, sizeof **taken, by_size);
+    }
+}
+
+/* Prints a number for each side from one on, and a dash for a side that does not do the workload. */
+static void print_each(const struct workload *w, unsigned from, int width, const double *number)
+{
+    for (unsigned s = from; s < SIDES; s++)
+        if (s < sides_of(w))
+            printf(" %*.2f", width, number[s]);
+        else
+            printf(" %*s", width, "-");
+}
+
+/* Measures a workload and prints its row; answers the median turn over the least, of the side where it is largest. */
 static double measure(const struct workload *w, uint16_t *table, unsigned turns)
 {
-    static double taken[2][ALL_TURNS];
+    static const char *const unit[] = {"cells", "bytes", "call"};
+    static double taken[SIDES][ALL_TURNS];
     char passes[11] = "-";
-    double units = units_of(w, table, passes), spread[2], once[2];
-    unsigned times = take_turns(w, table, &turns, taken);
-    for (unsigned side = 0; side < 2; side++) {
-        once[side] = taken[side][0] / times;
-        spread[side] = taken[side][turns / 2] / taken[side][0];
+    double units = units_of(w, table, passes), most = 1, once[SIDES], each[SIDES], ratio[SIDES];
+    unsigned times;
+    turns *= turn_of(w, table, &times) < SHORT_TURN ? MORE_TURNS : 1;
+    take_turns(w, table, times, turns, taken);
+    for (unsigned s = 0; s < sides_of(w); s++) {
+        double spread = taken[s][turns / 2] / taken[s][0];
+        once[s] = taken[s][0] / times * 1e6;
+        each[s] = once[s] / units * 1e3;
+        ratio[s] = once[LIBRARY] / once[s];
+        most = spread > most ? spread : most;
     }
-    printf("%-42s %6s %9.0f %-5s %9.3f %9.3f %9.2f %9.2f %6.2f\n", w->name, passes, units,
-           w->sort == EVALUATE ? "cells" : "bytes", once[0] * 1e3, once[1] * 1e3, once[0] / units * 1e9,
-           once[1] / units * 1e9, once[0] / once[1]);
+    printf("%-42s %6s %9.0f %-5s", w->name, passes, units, unit[w->unit]);
+    print_each(w, LIBRARY, 9, once);
+    print_each(w, LIBRARY, 7, each);
+    print_each(w, PLAIN, 7, ratio);
+    printf("\n");
     fflush(stdout);
-    return spread[0] > spread[1] ? spread[0] : spread[1];
+    return most;
+}
+
+static void print_head(void)
+{
+    printf("%-42s %6s %15s %29s %23s %15s\n", "", "", "visited cells,", "microseconds", "ns per cell, byte, call",
+           "library /");
+    printf("%-42s %6s %15s %9s %9s %9s %7s %7s %7s %7s %7s\n", "workload", "passes", "bytes or calls", "library",
+           "plain", "decoded", "library", "plain", "decoded", "plain", "decoded");
 }
 
 int main(int argc, char **argv)
 {
     static struct workload workload[WORKLOADS];
-    uint16_t *one = malloc(CELLS_LENT * sizeof *one), *two = malloc(CELLS_LENT * sizeof *two);
+    uint16_t *table[SIDES];
     int turns = argc > 1 ? atoi(argv[1]) : TURNS;
-    uint64_t calls = 0;
+    uint64_t calls = 0, at_random;
     double most = 1;
-    if (!one || !two || turns < 1 || turns > MOST_TURNS) {
-        fprintf(stderr, "bench [turns]: 1 to %d turns, and 64 MB of memory\n", MOST_TURNS);
-        return 2;
+    for (unsigned s = 0; s < SIDES; s++) {
+        table[s] = malloc(CELLS_LENT * sizeof **table);
+        if (!table[s] || turns < 1 || turns > MOST_TURNS) {
+            fprintf(stderr, "bench [turns]: 1 to %d turns, and 96 MB of memory\n", MOST_TURNS);
+            return 2;
+        }
     }
-    build_workloads(workload, one);
+    build_workloads(workload, *table);
     for (unsigned i = 0; i < WORKLOADS; i++)
-        calls += agree(&workload[i], one, two);
-    free(two);
-    printf("The library and plain C agree on %.0f calls.\n", (double)calls);
+        calls += agree(&workload[i], table);
+    at_random = agree_at_random(table);
+    for (unsigned s = 1; s < SIDES; s++)
+        free(table[s]);
+    printf("The library, plain C and decoding C agree on %.0f calls and on %.0f random programs.\n", (double)calls,
+           (double)at_random);
     printf("Processor time, the least of %d turns, of %d where a turn takes less than a tenth of a second.\n\n", turns,
            turns * MORE_TURNS);
-    printf("%-42s %6s %15s %19s %19s %6s\n", "", "", "visited", "milliseconds", "ns per cell or byte", "");
-    printf("%-42s %6s %15s %9s %9s %9s %9s %6s\n", "workload", "passes", "cells or bytes", "library", "plain C", "library",
-           "plain C", "ratio");
+    print_head();
     for (unsigned i = 0; i < WORKLOADS; i++) {
-        double spread = measure(&workload[i], one, turns);
+        double spread = measure(&workload[i], *table, turns);
         most = spread > most ? spread : most;
     }
     printf("\nThe median turn is at most %.0f %% above the least.\n", (most - 1) * 100);
-    free(one);
+    free(*table);
     return 0;
 }

@@ -33,152 +33,16 @@ static const uint8_t bools[] = {
     4, 1, 19, 0, 0x23, 0x22, 0x10, 0x00, 0x23, 0x81, 0x11, 0x12, 0x13, 0x20, 0x10, 0x01,
     0x82, 0x21, 0x10, 0x12, 0x13, 0x20, 0x10};
 
-/* ---- Programs built up */
-
-/* Room for the bytes of programs, records and the archive, all 0. */
-static uint8_t *room(size_t size)
-{
-    static uint8_t store[65536];
-    static size_t used;
-    if (size > sizeof store - used) {
-        fprintf(stderr, "the store of the workloads is too small\n");
-        exit(2);
-    }
-    used += size;
-    return store + used - size;
-}
-
-/* What is being written: the next place, what choices are taken from, and the functions of the program. */
-struct writer {
-    uint8_t *next;
-    uint32_t seed;
-    unsigned functions, own;
-    uint8_t params[32], kinds[32];
-};
-
-static unsigned choose(struct writer *w, unsigned below)
-{
-    w->seed = w->seed * 1664525 + 1013904223;
-    return (w->seed >> 16) % below;
-}
-
-/* Part i of a size cut into so many parts that differ by one at most. */
-static unsigned part(unsigned size, unsigned parts, unsigned i) { return size / parts + (i < size % parts); }
-
-static void header(struct writer *w, unsigned g, unsigned length)
-{
-    *w->next++ = w->params[g];
-    *w->next++ = w->kinds[g];
-    *w->next++ = length % 256;
-    *w->next++ = length / 256;
-}
-
-/* A tree of conditions, ifs in all three places; its leaves are taken in turn from five of 10 bytes together. */
-static void tree(struct writer *w, unsigned levels, unsigned *leaf)
-{
-    static const uint8_t leaves[5][4] = {
-        {2, 0x20, 0x10}, {3, 0x20, 0x21, 0x10}, {1, 0x01}, {3, 0x80, 0x21, 0x10}, {1, 0x00}};
-    if (levels == 0) {
-        const uint8_t *l = leaves[(*leaf)++ % 5];
-        memcpy(w->next, l + 1, l[0]);
-        w->next += l[0];
-        return;
-    }
-    *w->next++ = 0x23;
-    for (unsigned i = 0; i < 3; i++)
-        tree(w, levels - 1, leaf);
-}
-
-/* main(l) = if null l then null l else if null (tl l) then main(tl l) else a tree of 202 conditions; the body has
- * 1,024 bytes. */
-static struct bytes long_body(void)
-{
-    static const uint8_t front[] = {0x23, 0x22, 0x10, 0x22, 0x10, 0x23, 0x22, 0x21, 0x10, 0x80, 0x21, 0x10, 0x23};
-    uint8_t *program = room(1029);
-    struct writer w = {program + 1, 0, 1, 0, {1}, {1}};
-    unsigned leaf = 0;
-    program[0] = 1;
-    header(&w, 0, 1024);
-    memcpy(w.next, front, sizeof front);
-    w.next += sizeof front;
-    tree(&w, 5, &leaf);
-    tree(&w, 4, &leaf);
-    tree(&w, 4, &leaf);
-    return (struct bytes){program, w.next - program};
-}
-
-/* main(l) = null (tl (.. (tl l))), 64 nodes deep. */
-static struct bytes deep(void)
-{
-    uint8_t *program = room(69);
-    struct writer w = {program + 1, 0, 1, 0, {1}, {1}};
-    program[0] = 1;
-    header(&w, 0, 64);
-    memset(w.next, 0x21, 63);
-    w.next[0] = 0x22;
-    w.next[63] = 0x10;
-    return (struct bytes){program, 69};
-}
-
-/* A node without operands. */
-static void leaf(struct writer *w, unsigned list)
-{
-    unsigned p = choose(w, 4);
-    if (p < w->params[w->own] && (w->kinds[w->own] >> p & 1u) == list)
-        *w->next++ = 0x10 + p;
-    else
-        *w->next++ = list ? 0x02 : choose(w, 2);
-}
-
-/* An expression of just that many bytes. Ifs and calls cut what is left into equal parts, so it is not deep. */
-static void expression(struct writer *w, unsigned list, unsigned size)
-{
-    unsigned g = choose(w, w->functions), params = w->params[g], kinds = w->kinds[g];
-    if (size == 1) {
-        leaf(w, list);
-    } else if (size < 4 || (size < 8 && choose(w, 2))) {
-        *w->next++ = list ? 0x21 : choose(w, 2) ? 0x20 : 0x22;
-        expression(w, 1, size - 1);
-    } else if (params > 1 && params < size && (kinds >> 4 & 1u) == list) {
-        *w->next++ = 0x80 + g;
-        for (unsigned i = 0; i < params; i++)
-            expression(w, kinds >> i & 1, part(size - 1, params, i));
-    } else {
-        *w->next++ = 0x23;
-        for (unsigned i = 0; i < 3; i++)
-            expression(w, i ? list : 0, part(size - 1, 3, i));
-    }
-}
-
-/* An accepted program of just that many bytes and functions. */
-static struct bytes any_program(unsigned size, unsigned functions)
-{
-    uint8_t *program = room(size);
-    struct writer w = {program + 1, size, functions, 0, {1}, {1}};
-    program[0] = functions;
-    for (unsigned g = 1; g < functions; g++) {
-        w.params[g] = choose(&w, 5);
-        w.kinds[g] = choose(&w, 1u << w.params[g]) + 16 * choose(&w, 2);
-    }
-    for (unsigned g = 0; g < functions; g++) {
-        unsigned length = part(size - 1 - 4 * functions, functions, g);
-        w.own = g;
-        header(&w, g, length);
-        expression(&w, w.kinds[g] >> 4 & 1, length);
-    }
-    return (struct bytes){program, w.next - program};
-}
-
-/* ---- Traces, records, an archive */
+/* ---- Traces, records, archives */
 
 static uint8_t ones[512], mixed[512];
 
 static void fill_traces(void)
 {
-    struct writer w = {0, 1, 0, 0, {0}, {0}};
+    uint32_t seed = 1;
     memset(ones, 255, sizeof ones);
     for (unsigned i = 0; i < sizeof mixed; i++)
-        mixed[i] = choose(&w, 256);
+        mixed[i] = random_below(&seed, 256);
 }
 
 /* A program with the number of samples on which it is recorded. */
@@ -205,43 +69,70 @@ enum { ARCHIVE = 32768, LEAST = sizeof row_d + 21, LAST = LEAST + 511 };
 
 static size_t record_len(struct task t) { return t.program.len + (t.n + 7) / 8 + 21; }
 
-/* An archive of 32,768 bytes: the tasks in turn as long as there is room, then row D on traces that fill the rest. The
- * pass count of every seventh record is one too high. */
-static struct bytes archive(const struct task *task, size_t tasks, uint16_t *table)
+struct archive {
+    uint8_t *bytes;
+    size_t len, records;
+};
+
+/* Appends the record of a task. The pass count of every seventh record is one too high. */
+static void append(struct archive *a, struct task t, uint16_t *table)
 {
-    uint8_t *bytes = room(ARCHIVE);
-    size_t at = 0, i = 0;
-    while (at < ARCHIVE) {
-        size_t left = ARCHIVE - at;
-        struct task next = task[i % tasks];
+    a->len += record(t, table, a->bytes + a->len, ARCHIVE - a->len);
+    a->bytes[a->len - 12] += ++a->records % 7 == 0;
+}
+
+/* An archive of 32,768 bytes: the tasks in turn as long as there is room, then row D on traces that fill the rest. */
+static struct bytes full_archive(const struct task *task, size_t tasks, uint16_t *table)
+{
+    struct archive a = {room(ARCHIVE), 0, 0};
+    while (a.len < ARCHIVE) {
+        size_t left = ARCHIVE - a.len;
+        struct task next = task[a.records % tasks];
         if (record_len(next) + LAST > left)
             next = (struct task){{row_d, sizeof row_d}, left > LAST ? 800 : 8 * (left - LEAST)};
-        at += record(next, table, bytes + at, left);
-        bytes[at - 12] += ++i % 7 == 0;
+        append(&a, next, table);
     }
-    return (struct bytes){bytes, at};
+    return (struct bytes){a.bytes, a.len};
+}
+
+/* An archive of at most 32,768 bytes: the tasks in turn as long as there is room. */
+static struct bytes archive(const struct task *task, size_t tasks, uint16_t *table)
+{
+    struct archive a = {room(ARCHIVE), 0, 0};
+    while (record_len(task[a.records % tasks]) <= ARCHIVE - a.len)
+        append(&a, task[a.records % tasks], table);
+    return (struct bytes){a.bytes, a.len};
 }
 
 /* ---- The workloads */
 
 #define BYTES(a) ((struct bytes){a, sizeof a})
+#define COUNT(a) (sizeof a / sizeof *a)
 
 static struct workload evaluate(const char *name, struct bytes program, const uint8_t *trace, unsigned n)
 {
-    return (struct workload){name, EVALUATE, n, 2, {program, {trace, (n + 7) / 8}}};
+    return (struct workload){name, EVALUATE, PER_CELL, n, 2, {program, {trace, (n + 7) / 8}}};
+}
+
+static struct workload walk(const char *name, struct bytes archive)
+{
+    return (struct workload){name, WALK, PER_BYTE, 0, 1, {archive}};
 }
 
 void build_workloads(struct workload workload[WORKLOADS], uint16_t *table)
 {
-    struct workload walk = {"walk and check an archive of 32,768 bytes", WALK, 0, 1, {{0, 0}}};
-    struct workload check = {"check programs", CHECK, 0, 0, {{0, 0}}};
-    struct workload read = {"read records", READ, 0, 0, {{0, 0}}};
+    static const uint8_t trace_a[] = {5};
+    struct workload check = {"check programs", CHECK, PER_BYTE, 0, 0, {{0, 0}}};
+    struct workload read = {"read records", READ, PER_BYTE, 0, 0, {{0, 0}}};
     struct bytes body = long_body();
     /* Numbers of samples with which a listing's table holds all but the last. */
     const struct task listed[] = {
         {BYTES(row_a), 100}, {BYTES(row_b), 50}, {BYTES(row_c), 0}, {BYTES(row_d), 2000}, {BYTES(row_e), 20},
         {BYTES(row_f), 20}, {BYTES(two_lists), 100}, {BYTES(ping_pong), 200}, {BYTES(bools), 500}, {body, 1000},
         {deep(), 300}, {any_program(256, 4), 7}, {any_program(1024, 8), 3}, {BYTES(two_lists), 200}};
+    const struct task small[] = {
+        {BYTES(row_a), 3}, {BYTES(row_b), 3}, {BYTES(row_c), 0}, {BYTES(row_d), 3}, {BYTES(row_a), 20},
+        {BYTES(row_b), 12}, {BYTES(row_c), 9}, {BYTES(row_d), 24}};
     /* Programs to check, and the records of them to read. */
     const struct task mix[] = {
         {BYTES(row_a), 3}, {BYTES(row_b), 0}, {BYTES(row_c), 20}, {BYTES(row_d), 4095}, {BYTES(row_e), 100},
@@ -249,8 +140,7 @@ void build_workloads(struct workload workload[WORKLOADS], uint16_t *table)
         {deep(), 200}, {any_program(64, 2), 7}, {any_program(128, 4), 7}, {any_program(256, 4), 7},
         {any_program(512, 8), 7}, {any_program(1024, 8), 3}, {any_program(2048, 16), 3}, {any_program(4096, 32), 3}};
     fill_traces();
-    walk.item[0] = archive(listed, sizeof listed / sizeof *listed, table);
-    for (size_t i = 0; i < sizeof mix / sizeof *mix; i++) {
+    for (size_t i = 0; i < COUNT(mix); i++) {
         size_t len = record_len(mix[i]);
         uint8_t *bytes = room(len);
         record(mix[i], table, bytes, len);
@@ -262,7 +152,10 @@ void build_workloads(struct workload workload[WORKLOADS], uint16_t *table)
     workload[2] = evaluate("ping-pong of two functions, n = 4,095", BYTES(ping_pong), ones, 4095);
     workload[3] = evaluate("four Bools; a list and three, n = 4,095", BYTES(bools), mixed, 4095);
     workload[4] = evaluate("a body of 1,024 bytes, n = 4,095", body, mixed, 4095);
-    workload[5] = walk;
-    workload[6] = check;
-    workload[7] = read;
+    workload[5] = evaluate("row A, n = 3", BYTES(row_a), trace_a, 3);
+    workload[5].unit = PER_CALL;
+    workload[6] = walk("walk and check an archive of 32,768 bytes", full_archive(listed, COUNT(listed), table));
+    workload[7] = walk("walk and check an archive of small records", archive(small, COUNT(small), table));
+    workload[8] = check;
+    workload[9] = read;
 }

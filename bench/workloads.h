@@ -1,19 +1,13 @@
-/* What is measured: programs with traces, an archive, programs to check and records to read. */
+/* What is measured: programs with traces, archives, programs to check and records to read. */
 #ifndef WORKLOADS_H
 #define WORKLOADS_H
 
-#include <stddef.h>
-#include <stdint.h>
+#include "programs.h"
 
 enum {
     CELLS_LENT = 16777216, /* the table of the workloads that evaluate */
     LISTING_CELLS = 16384,      /* the table in which a listing checks records */
     MOST_ITEMS = 24
-};
-
-struct bytes {
-    const uint8_t *at;
-    size_t len;
 };
 
 enum sort {
@@ -23,15 +17,19 @@ enum sort {
     READ      /* the items are records, each by itself */
 };
 
+/* What its time is divided by. */
+enum unit { PER_CELL, PER_BYTE, PER_CALL };
+
 struct workload {
     const char *name;
     enum sort sort;
+    enum unit unit;
     unsigned n;
     size_t items;
     struct bytes item[MOST_ITEMS];
 };
 
-enum { WORKLOADS = 8 };
+enum { WORKLOADS = 10 };
 
 /* Fills in the workloads. They are the same in every run. The table is used to write records. */
 void build_workloads(struct workload workload[WORKLOADS], uint16_t *table);

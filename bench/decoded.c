@@ -1,0 +1,267 @@
+/* The decoding evaluator. Each body is decoded once an evaluation, from its last byte to its first, into one word a
+ * node at the place of its byte; common pairs of nodes are one sort. The evaluator is a recursion over these words, and
+ * a pass takes the cells of a function by rows, in which only the last parameter differs. It runs on accepted programs
+ * alone, so it asks for no depth and no bounds.
+ */
+#include "common.h"
+
+/* The sorts of decoded nodes. hd, tl and null of a parameter have sorts of their own; so has an if whose condition is a
+ * parameter or null or hd of one, and a call with one argument. */
+enum {
+    CONSTANT, PARAM, HD, TL, NULL_, HD_PARAM, TL_PARAM, NULL_PARAM, IF, IF_PARAM, IF_NULL_PARAM, IF_HD_PARAM, CALL,
+    CALL_ONE
+};
+
+/* A node has its sort in bits 0 to 3, a small number in bits 8 to 15 and four places of 12 bits from bit 16 on. The
+ * small number is a parameter, or of a call the callee and 32 times the number of arguments. The places are those of
+ * the operands, in their order; of a constant the first is its number. */
+enum { SMALL = 8, PLACES = 16, PLACE = 12 };
+
+static unsigned sort(uint64_t node) { return node & 15; }
+
+static unsigned param(uint64_t node) { return node >> SMALL & 3; }
+
+static unsigned callee(uint64_t node) { return node >> SMALL & 31; }
+
+static unsigned arguments(uint64_t node) { return node >> (SMALL + 5) & 7; }
+
+static unsigned place(uint64_t node, unsigned i) { return node >> (PLACES + PLACE * i) & 4095; }
+
+/* A kind: how many values it has, and the number of the first. */
+struct kind {
+    uint32_t values, lowest;
+};
+
+/* What a call asks of a function: its first cell in bits 0 to 31, then the least and the most number of an outcome of
+ * its kind in 16 bits each; and the kinds of its parameters. A function without parameters has one of a single value.
+ */
+struct called {
+    uint64_t outcomes;
+    struct kind param[MOST_PARAMS];
+};
+
+struct decoded {
+    struct rule rule;  /* first, as a pass is handed the rule */
+    struct called called[MOST_FUNCTIONS];
+    uint64_t node[MOST_PROGRAM];
+};
+
+static uint32_t first_cell(uint64_t outcomes) { return outcomes; }
+
+/* A cell that holds no outcome of its function's kind counts as undecided. */
+static unsigned held(uint64_t outcomes, unsigned cell)
+{
+    return cell < (outcomes >> 32 & 65535) || cell > outcomes >> 48 ? UNDECIDED : cell;
+}
+
+/* ---- Evaluating */
+
+static unsigned head(const struct decoded *d, unsigned v)
+{
+    if (v <= EMPTY)
+        return v < EMPTY ? v : HEAD;
+    v = d->rule.n + EMPTY - v;
+    return (d->rule.trace[v / 8] >> v % 8 & 1) + FALSE_;
+}
+
+static unsigned tail(unsigned v) { return v < EMPTY ? v : v == EMPTY ? TAIL : v - 1; }
+
+static unsigned null(unsigned v) { return v < EMPTY ? v : v == EMPTY ? TRUE_ : FALSE_; }
+
+static unsigned eval(const struct decoded *d, const uint16_t *env, uint64_t node);
+
+/* As eval; a parameter, its tl and its hd are taken at once. */
+static inline unsigned operand(const struct decoded *d, const uint16_t *env, uint64_t node)
+{
+    if (sort(node) == TL_PARAM)
+        return tail(env[param(node)]);
+    if (sort(node) == PARAM)
+        return env[param(node)];
+    if (sort(node) == HD_PARAM)
+        return head(d, env[param(node)]);
+    return eval(d, env, node);
+}
+
+/* What the table holds for a call. An argument that is no value of its parameter, so undecided or an error, is the
+ * outcome. */
+static unsigned call(const struct decoded *d, const uint16_t *env, uint64_t node)
+{
+    const struct called *f = &d->called[callee(node)];
+    uint64_t places = node >> PLACES;
+    uint32_t index = 0;
+    for (unsigned i = 0; i < arguments(node); i++, places >>= PLACE) {
+        unsigned value = operand(d, env, d->node[places & 4095]), digit = value - f->param[i].lowest;
+        if (digit >= f->param[i].values)
+            return value;
+        index = index * f->param[i].values + digit;
+    }
+    return held(f->outcomes, d->rule.table[first_cell(f->outcomes) + index]);
+}
+
+static unsigned call_one(const struct decoded *d, const uint16_t *env, uint64_t node)
+{
+    const struct called *f = &d->called[callee(node)];
+    unsigned value = operand(d, env, d->node[place(node, 0)]), digit = value - f->param[0].lowest;
+    if (digit >= f->param[0].values)
+        return value;
+    return held(f->outcomes, d->rule.table[first_cell(f->outcomes) + digit]);
+}
+
+/* The outcome of a node, with calls looked up in the table. */
+static unsigned eval(const struct decoded *d, const uint16_t *env, uint64_t node)
+{
+    unsigned condition;
+    switch (sort(node)) {
+    case CONSTANT: return place(node, 0);
+    case PARAM: return env[param(node)];
+    case HD: return head(d, operand(d, env, d->node[place(node, 0)]));
+    case TL: return tail(operand(d, env, d->node[place(node, 0)]));
+    case NULL_: return null(operand(d, env, d->node[place(node, 0)]));
+    case HD_PARAM: return head(d, env[param(node)]);
+    case TL_PARAM: return tail(env[param(node)]);
+    case NULL_PARAM: return null(env[param(node)]);
+    case IF: condition = eval(d, env, d->node[place(node, 0)]); break;
+    case IF_PARAM: condition = env[param(node)]; break;
+    case IF_NULL_PARAM: condition = null(env[param(node)]); break;
+    case IF_HD_PARAM: condition = head(d, env[param(node)]); break;
+    case CALL: return call(d, env, node);
+    default: return call_one(d, env, node);
+    }
+    if (condition == TRUE_)
+        return eval(d, env, d->node[place(node, 1)]);
+    if (condition == FALSE_)
+        return eval(d, env, d->node[place(node, 2)]);
+    return condition;
+}
+
+/* ---- Passes */
+
+/* The values of all parameters but the last in a row, by the row's number. */
+static void row_values(const struct called *f, unsigned params, uint32_t row, uint16_t *env)
+{
+    for (unsigned p = params; p-- > 1; row /= f->param[p - 1].values)
+        env[p - 1] = row % f->param[p - 1].values + f->param[p - 1].lowest;
+}
+
+/* Visits the cells of a function: how many outcomes were stored. */
+static uint32_t pass_function(const struct decoded *d, unsigned g)
+{
+    const struct function *f = &d->rule.function[g];
+    const struct called *c = &d->called[g];
+    const unsigned last = f->params ? f->params - 1 : 0, lowest = c->param[last].lowest;
+    const uint32_t width = c->param[last].values, rows = f->cells / width;
+    const uint64_t body = d->node[f->start], outcomes = c->outcomes;
+    uint16_t env[MOST_PARAMS] = {0, 0, 0, 0}, *cell = d->rule.table + f->first;
+    uint32_t stored = 0;
+    for (uint32_t row = 0; row < rows; row++, cell += width) {
+        uint32_t digit = 0;
+        while (digit < width && held(outcomes, cell[digit]) != UNDECIDED)
+            digit++;
+        if (digit == width)
+            continue;
+        row_values(c, f->params, row, env);
+        for (; digit < width; digit++) {
+            unsigned outcome;
+            if (held(outcomes, cell[digit]) != UNDECIDED)
+                continue;
+            env[last] = lowest + digit;
+            outcome = eval(d, env, body);
+            if (outcome != UNDECIDED) {
+                cell[digit] = outcome;
+                stored++;
+            }
+        }
+    }
+    return stored;
+}
+
+/* One pass: how many outcomes it stored. */
+static uint32_t pass(const struct rule *r)
+{
+    uint32_t stored = 0;
+    for (unsigned g = 0; g < r->functions; g++)
+        stored += pass_function((const struct decoded *)r, g);
+    return stored;
+}
+
+/* ---- Decoding */
+
+/* hd, tl or null, by the node of its operand. */
+static uint64_t unary(unsigned of_any, unsigned of_param, uint64_t operand)
+{
+    return sort(operand) == PARAM ? of_param | param(operand) << SMALL : of_any;
+}
+
+/* An if without its places, by the node of its condition. */
+static uint64_t conditional(uint64_t condition)
+{
+    unsigned small = param(condition) << SMALL;
+    switch (sort(condition)) {
+    case PARAM: return IF_PARAM | small;
+    case NULL_PARAM: return IF_NULL_PARAM | small;
+    case HD_PARAM: return IF_HD_PARAM | small;
+    default: return IF;
+    }
+}
+
+/* Decodes the byte at a place by the nodes after it. */
+static void decode(struct decoded *d, unsigned at)
+{
+    const unsigned byte = d->rule.code[at];
+    unsigned operands = 0, end = at + 1;
+    uint64_t node;
+    switch (byte) {
+    case 0x00: node = CONSTANT | FALSE_ << PLACES; break;
+    case 0x01: node = CONSTANT | TRUE_ << PLACES; break;
+    case 0x02: node = CONSTANT | EMPTY << PLACES; break;
+    case 0x10: case 0x11: case 0x12: case 0x13: node = PARAM | (byte - 0x10) << SMALL; break;
+    case 0x20: node = unary(HD, HD_PARAM, d->node[end]), operands = 1; break;
+    case 0x21: node = unary(TL, TL_PARAM, d->node[end]), operands = 1; break;
+    case 0x22: node = unary(NULL_, NULL_PARAM, d->node[end]), operands = 1; break;
+    case 0x23: node = conditional(d->node[end]), operands = 3; break;
+    default:
+        operands = d->rule.function[byte - 0x80].params;
+        node = (operands == 1 ? CALL_ONE : CALL) | (byte - 0x80 + 32 * operands) << SMALL;
+    }
+    for (unsigned i = 0; i < operands; i++) {
+        node |= (uint64_t)end << (PLACES + PLACE * i);
+        end = d->rule.ends[end];
+    }
+    d->node[at] = node;
+    d->rule.ends[at] = end;
+}
+
+/* Works out what a call asks of a function, and decodes its body. */
+static void decode_function(struct decoded *d, unsigned g)
+{
+    const struct function *f = &d->rule.function[g];
+    const unsigned list = is_list(f->kinds, 4);
+    const uint64_t least = list ? HEAD : FALSE_, most = list ? EMPTY + d->rule.n : TAIL;
+    d->called[g].outcomes = f->first | least << 32 | most << 48;
+    d->called[g].param[0] = (struct kind){1, 0};
+    for (unsigned p = 0; p < f->params; p++) {
+        const unsigned of_list = is_list(f->kinds, p);
+        d->called[g].param[p] = (struct kind){radix(&d->rule, of_list), of_list ? EMPTY : FALSE_};
+    }
+    for (unsigned at = f->end; at-- > f->start;)
+        decode(d, at);
+}
+
+uint32_t decoded_evaluate(const uint8_t *program, size_t program_len, const uint8_t *trace, size_t trace_len,
+                          uint64_t n, uint16_t *table, size_t table_len, uint64_t answer[3])
+{
+    struct decoded d;
+    uint32_t number = begin(&d.rule, program, program_len, trace, trace_len, n, table, table_len);
+    if (number)
+        return number;
+    for (unsigned g = 0; g < d.rule.functions; g++)
+        decode_function(&d, g);
+    make_passes(&d.rule, pass, answer);
+    return 0;
+}
+
+uint32_t decoded_check_record(const uint8_t *bytes, size_t bytes_len, uint16_t *table, size_t table_len,
+                              uint64_t answer[1])
+{
+    return check_record_by(decoded_evaluate, bytes, bytes_len, table, table_len, answer);
+}

@@ -1,0 +1,121 @@
+/* The plain evaluator is what one would write by hand: a recursion over expression bytes whose outcomes are cell
+ * numbers, with first cells, kinds and expression ends worked out once, and a pass for which a decided cell costs a
+ * load and a test. It runs on accepted programs alone, so it asks for no depth and no bounds.
+ */
+#include "common.h"
+
+/* A cell that holds no outcome of its function's kind counts as undecided. */
+static uint16_t held(const struct rule *r, unsigned list, uint16_t cell)
+{
+    return list ? (cell >= HEAD && cell <= EMPTY + r->n ? cell : UNDECIDED) : (cell <= TAIL ? cell : UNDECIDED);
+}
+
+static uint16_t eval(const struct rule *r, const uint16_t *env, unsigned at);
+
+static uint16_t call(const struct rule *r, const uint16_t *env, unsigned at, unsigned g)
+{
+    const struct function *f = &r->function[g];
+    uint32_t index = 0;
+    for (unsigned i = 0; i < f->params; i++) {
+        uint16_t value = eval(r, env, at);
+        if (value == UNDECIDED || value == HEAD || value == TAIL)
+            return value;
+        index = is_list(f->kinds, i) ? index * (r->n + 1) + (value - EMPTY) : index * 2 + (value - FALSE_);
+        at = r->ends[at];
+    }
+    return held(r, is_list(f->kinds, 4), r->table[f->first + index]);
+}
+
+/* The outcome of the expression at a place, with calls looked up in the table. */
+static uint16_t eval(const struct rule *r, const uint16_t *env, unsigned at)
+{
+    uint8_t byte = r->code[at];
+    uint16_t v;
+    switch (byte) {
+    case 0x00: return FALSE_;
+    case 0x01: return TRUE_;
+    case 0x02: return EMPTY;
+    case 0x10: case 0x11: case 0x12: case 0x13: return env[byte - 0x10];
+    case 0x20:
+        v = eval(r, env, at + 1);
+        if (v <= EMPTY)
+            return v < EMPTY ? v : HEAD;
+        v = r->n - (v - EMPTY);
+        return r->trace[v / 8] >> v % 8 & 1 ? TRUE_ : FALSE_;
+    case 0x21:
+        v = eval(r, env, at + 1);
+        return v < EMPTY ? v : v == EMPTY ? TAIL : v - 1;
+    case 0x22:
+        v = eval(r, env, at + 1);
+        return v < EMPTY ? v : v == EMPTY ? TRUE_ : FALSE_;
+    case 0x23:
+        v = eval(r, env, at + 1);
+        at = r->ends[at + 1];
+        return v == TRUE_ ? eval(r, env, at) : v == FALSE_ ? eval(r, env, r->ends[at]) : v;
+    default: return call(r, env, at + 1, byte - 0x80);
+    }
+}
+
+/* The parameter values of a configuration, by its number. */
+static void values(const struct rule *r, const struct function *f, uint32_t index, uint16_t env[4])
+{
+    for (unsigned p = f->params; p-- > 0;) {
+        unsigned list = is_list(f->kinds, p), values = radix(r, list);
+        env[p] = index % values + (list ? EMPTY : FALSE_);
+        index /= values;
+    }
+}
+
+/* One pass: how many outcomes it stored. */
+static uint32_t pass(const struct rule *r)
+{
+    uint32_t stored = 0;
+    for (unsigned g = 0; g < r->functions; g++) {
+        const struct function *f = &r->function[g];
+        for (uint32_t i = 0; i < f->cells; i++) {
+            uint16_t env[4] = {0, 0, 0, 0}, outcome;
+            if (held(r, is_list(f->kinds, 4), r->table[f->first + i]) != UNDECIDED)
+                continue;
+            values(r, f, i, env);
+            outcome = eval(r, env, f->start);
+            if (outcome != UNDECIDED) {
+                r->table[f->first + i] = outcome;
+                stored++;
+            }
+        }
+    }
+    return stored;
+}
+
+/* Works out from the last byte where the expression that starts at each byte ends. Headers get ends too, which nothing
+ * asks for. */
+static void find_ends(struct rule *r)
+{
+    for (unsigned at = r->len; at-- > 0;) {
+        uint8_t byte = r->code[at];
+        unsigned operands = byte == 0x23 ? 3 : byte >= 0x20 && byte <= 0x22 ? 1 : 0, end = at + 1;
+        if (byte >= 0x80 && byte < 0x80 + r->functions)
+            operands = r->function[byte - 0x80].params;
+        for (; operands > 0 && end < r->len; operands--)
+            end = r->ends[end];
+        r->ends[at] = end;
+    }
+}
+
+uint32_t plain_evaluate(const uint8_t *program, size_t program_len, const uint8_t *trace, size_t trace_len, uint64_t n,
+                        uint16_t *table, size_t table_len, uint64_t answer[3])
+{
+    struct rule r;
+    uint32_t number = begin(&r, program, program_len, trace, trace_len, n, table, table_len);
+    if (number)
+        return number;
+    find_ends(&r);
+    make_passes(&r, pass, answer);
+    return 0;
+}
+
+uint32_t plain_check_record(const uint8_t *bytes, size_t bytes_len, uint16_t *table, size_t table_len,
+                            uint64_t answer[1])
+{
+    return check_record_by(plain_evaluate, bytes, bytes_len, table, table_len, answer);
+}
