@@ -582,14 +582,7 @@ operand-returns-5 t c = c .eval .ensures
 
 pub +branch+call+call-one+eval+operand-spec : {M : Type 1} → statement M
 +branch+call+call-one+eval+operand-spec =
-    close μ-branch μ-call μ-call-one μ-eval μ-operand (λ t. branch-lts.spec (
-      second-reads.Asked,
-      second-reads.Learnt,
-      eval-below t,
-      eval.Post,
-      third-reads.Asked,
-      third-reads.Learnt,
-    )
+    close μ-branch μ-call μ-call-one μ-eval μ-operand (λ t. branch-lts.spec (branch-claims t)
     (branch-at t)
     branch.Post
     (branch-second-requires t)
@@ -599,26 +592,7 @@ pub +branch+call+call-one+eval+operand-spec : {M : Type 1} → statement M
     (branch-eval-requires-2 t)
     (branch-returns-2 t)
     (branch-returns-3 t))
-    (λ t. call-lts.spec (
-      callee-reads.Asked,
-      callee-reads.Learnt,
-      count-reads.Asked,
-      count-reads.Learnt,
-      places-reads.Asked,
-      places-reads.Learnt,
-      at-reads.Asked,
-      at-reads.Learnt,
-      operand-below t,
-      operand.Post,
-      digit-reads.Asked,
-      digit-reads.Learnt,
-      values-reads.Asked,
-      values-reads.Learnt,
-      next-index-reads.Asked,
-      next-index-reads.Learnt,
-      lookup-reads.Asked,
-      lookup-reads.Learnt,
-    )
+    (λ t. call-lts.spec (call-claims t)
     (call-at t)
     call.Post
     call-Inv-loop
@@ -647,20 +621,7 @@ pub +branch+call+call-one+eval+operand-spec : {M : Type 1} → statement M
     (call-element-copy-out-lookup t)
     (call-lookup-requires t)
     (call-returns-2 t))
-    (λ t. call-one-lts.spec (
-      callee-reads.Asked,
-      callee-reads.Learnt,
-      first-reads.Asked,
-      first-reads.Learnt,
-      operand-below t,
-      operand.Post,
-      digit-reads.Asked,
-      digit-reads.Learnt,
-      values-reads.Asked,
-      values-reads.Learnt,
-      lookup-reads.Asked,
-      lookup-reads.Learnt,
-    )
+    (λ t. call-one-lts.spec (call-one-claims t)
     (call-one-at t)
     call-one.Post
     (call-one-callee-requires t)
@@ -678,32 +639,7 @@ pub +branch+call+call-one+eval+operand-spec : {M : Type 1} → statement M
     (call-one-element-copy-out-lookup t)
     (call-one-lookup-requires t)
     (call-one-returns-2 t))
-    (λ t. eval-lts.spec (
-      sort-reads.Asked,
-      sort-reads.Learnt,
-      constant-reads.Asked,
-      constant-reads.Learnt,
-      param-reads.Asked,
-      param-reads.Learnt,
-      first-reads.Asked,
-      first-reads.Learnt,
-      operand-below t,
-      operand.Post,
-      head-reads.Asked,
-      head-reads.Learnt,
-      tail-reads.Asked,
-      tail-reads.Learnt,
-      null-reads.Asked,
-      null-reads.Learnt,
-      eval-below t,
-      eval.Post,
-      branch-below t,
-      branch.Post,
-      call-below t,
-      call.Post,
-      call-one-below t,
-      call-one.Post,
-    )
+    (λ t. eval-lts.spec (eval-claims t)
     (eval-at t)
     eval.Post
     (eval-returns t)
@@ -759,18 +695,7 @@ pub +branch+call+call-one+eval+operand-spec : {M : Type 1} → statement M
     (eval-returns-16 t)
     (eval-returns-17 t)
     (eval-returns-18 t))
-    λ t. operand-lts.spec (
-      sort-reads.Asked,
-      sort-reads.Learnt,
-      param-reads.Asked,
-      param-reads.Learnt,
-      tail-reads.Asked,
-      tail-reads.Learnt,
-      head-reads.Asked,
-      head-reads.Learnt,
-      eval-below t,
-      eval.Post,
-    )
+    λ t. operand-lts.spec (operand-claims t)
     (operand-at t)
     operand.Post
     (operand-returns t)
