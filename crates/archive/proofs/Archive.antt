@@ -12,13 +12,13 @@ use lib.ListN.{length, take}
 use Rattle.refusal.specs.declared.Check.the-variants as check
 use Rattle.refusal.proofs.Numbers.{refused}
 use Rattle.rule.specs.Form.{AreBytes}
-use Rattle.record.specs.declared.Parts.{Parts}
-use Rattle.record.specs.declared.Reading.{Reading}
-use Rattle.record.specs.declared.Reading.the-variants as read
-use Rattle.record.specs.Form.{Contents, layout, Stated}
-use Rattle.record.specs.Reading.{contentsAt, reading}
+use Rattle.layout.specs.declared.Reading.{Reading}
+use Rattle.layout.specs.declared.Reading.the-variants as read
+use Rattle.layout.specs.Form.{Contents, layout, Stated}
+use Rattle.layout.specs.Trailer.{contentsAt}
+use Rattle.layout.proofs.Places.{bytes-take}
+use Rattle.record.specs.Reading.{reading}
 use Rattle.record.proofs.Inverse.{read-back}
-use Rattle.record.proofs.Places.{bytes-take}
 use Rattle.record.proofs.Ends.{ends-in}
 use Rattle.archive.specs.Walk.{archiveOf, found, walk, records, ending, AllStated, IsArchive, WalksExactly}
 use Rattle.archive.proofs.Walking.{before-short, walk-end, walk-record, walk-refused}

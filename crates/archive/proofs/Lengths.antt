@@ -10,7 +10,7 @@ use Rattle.refusal.specs.{numberOf}
 use Rattle.refusal.proofs.Numbers.{number-small}
 use Rattle.encoding.specs.{decimal}
 use Rattle.encoding.proofs.Decimal.{length-decimal}
-use Rattle.record.specs.declared.Parts.{Parts}
+use Rattle.layout.specs.declared.Parts.{Parts}
 use Rattle.record.specs.declared.Checked.{Checked}
 use Rattle.record.specs.declared.Checked.the-variants as checked
 use Rattle.archive.specs.Listing.{verdictWord, checkWord, recordLine, stopLine, endLine}

@@ -18,14 +18,14 @@ use lib.Seq.{length-take-le, take-all, take-take}
 use Rattle.refusal.specs.declared.Refusal.{Refusal}
 use Rattle.encoding.specs.{put}
 use Rattle.encoding.proofs.Putting.{Left, left-room, left-more, left-front}
-use Rattle.record.specs.declared.Parts.{Parts}
-use Rattle.record.specs.declared.Reading.{Reading}
-use Rattle.record.specs.declared.Reading.the-variants as read
+use Rattle.layout.specs.declared.Parts.{Parts}
+use Rattle.layout.specs.declared.Reading.{Reading}
+use Rattle.layout.specs.declared.Reading.the-variants as read
 use Rattle.record.specs.Reading.{reading}
 use Rattle.record.specs.declared.Checked.{Checked}
 use Rattle.record.specs.declared.Examined.{Examined}
 use Rattle.record.specs.Checking.{checking, examining}
-use Rattle.record.proofs.Places.{parts-within}
+use Rattle.record.proofs.Answers.{parts-within}
 use Rattle.archive.specs.Walk.{walk}
 use Rattle.archive.specs.Listing.{mostArchive, listingCells, listingBytes, newline, tooLongWords, recordLine, stopLine, endLine, linesOf, listing}
 use Rattle.archive.proofs.Walking.{before-short, walk-end, walk-record, walk-refused}

@@ -15,11 +15,12 @@ use Rattle.refusal.specs.declared.Refusal.{Refusal}
 use Rattle.refusal.specs.declared.Check.{Check}
 use Rattle.refusal.specs.declared.Check.the-variants.{Passed, Refused}
 use Rattle.refusal.specs.{answerIf}
-use Rattle.record.specs.declared.Parts.{Parts}
-use Rattle.record.specs.declared.Reading.{Reading}
-use Rattle.record.specs.declared.Reading.the-variants as read
-use Rattle.record.specs.Reading.{partsIn, readCheck, readBy, reading, partsValues}
-use Rattle.record.proofs.Places.{parts-within}
+use Rattle.layout.specs.declared.Parts.{Parts}
+use Rattle.layout.specs.declared.Reading.{Reading}
+use Rattle.layout.specs.declared.Reading.the-variants as read
+use Rattle.layout.specs.Trailer.{partsIn, readBy}
+use Rattle.record.specs.Reading.{readCheck, reading, partsValues}
+use Rattle.record.proofs.Answers.{parts-within}
 use Rattle.archive.specs.declared.Step.{Step}
 use Rattle.archive.specs.Walk.{stepBy, stepIn, stepAnswer, stepNumbers, Walk, ended, stopped, found, onward, walkIn, walk}
 

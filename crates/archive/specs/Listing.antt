@@ -7,7 +7,7 @@ use lib.ListN.{length}
 use Rattle.refusal.specs.declared.Refusal.{Refusal}
 use Rattle.refusal.specs.{numberOf}
 use Rattle.encoding.specs.{decimal}
-use Rattle.record.specs.declared.Parts.{Parts}
+use Rattle.layout.specs.declared.Parts.{Parts}
 use Rattle.record.specs.declared.Checked.{Checked}
 use Rattle.record.specs.declared.Checked.the-variants as checked
 use Rattle.record.specs.Checking.{checking}

@@ -8,11 +8,12 @@ use Rattle.refusal.specs.declared.Refusal.{Refusal}
 use Rattle.refusal.specs.declared.Check.{Check}
 use Rattle.refusal.specs.declared.Check.the-variants as check
 use Rattle.refusal.specs.{Answer, answered, refusedAs, answerIf}
-use Rattle.record.specs.declared.Parts.{Parts}
-use Rattle.record.specs.declared.Reading.{Reading}
-use Rattle.record.specs.declared.Reading.the-variants as read
-use Rattle.record.specs.Form.{Contents, layout, Stated}
-use Rattle.record.specs.Reading.{contentsAt, reading, partsValues, partsIn, readCheck}
+use Rattle.layout.specs.declared.Parts.{Parts}
+use Rattle.layout.specs.declared.Reading.{Reading}
+use Rattle.layout.specs.declared.Reading.the-variants as read
+use Rattle.layout.specs.Form.{Contents, layout, Stated}
+use Rattle.layout.specs.Trailer.{contentsAt, partsIn}
+use Rattle.record.specs.Reading.{reading, partsValues, readCheck}
 use Rattle.archive.specs.declared.Step.{Step}
 use Rattle.archive.specs.declared.Step.the-variants as step
 

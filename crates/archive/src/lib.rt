@@ -1,8 +1,8 @@
 // Archives: records end to end, walked from the last byte backwards, and the text that lists them.
 mod lines;
 
-use record::Parts;
-use record::Reading;
+use layout::Parts;
+use layout::Reading;
 use refusal::Refusal;
 ghost use mathlib.Core.Path.{_≡_};
 ghost use lib.ListN.{length, take};

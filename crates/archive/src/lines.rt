@@ -1,7 +1,7 @@
 // The lines of a listing.
+use layout::Parts;
+use layout::Reading;
 use record::Checked;
-use record::Parts;
-use record::Reading;
 use refusal::Refusal;
 ghost use mathlib.Core.Path.{_≡_};
 ghost use Prim.Native.Nat.{_+_, _≤_};

@@ -2,10 +2,10 @@
 use archive::Step;
 use evaluate::Evaluated;
 use evaluate::PassMade;
+use layout::Parts;
+use layout::Reading;
+use layout::Span;
 use record::Checked;
-use record::Parts;
-use record::Reading;
-use record::Span;
 use record::Written;
 use refusal::Check;
 use refusal::Refusal;

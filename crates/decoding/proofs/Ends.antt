@@ -18,9 +18,10 @@ use lib.ListN.{length, getElem?, getD, set, drop, replicate, length-append, leng
 use lib.Seq.{drop-drop, drop-append-seam, getD-drop, getD-set-same, getD-set-other}
 use borrow.Author.Tests.{lt-ltb}
 use Rattle.semantics.specs.Language.{Kind, truth, list, Op, hd, tl, null, Expr, constant, empty, param, op, ifte, call, Args, noArgs, arg, Function, Program, Meets, MeetAll}
-use Rattle.rule.specs.declared.Node.{Node}
-use Rattle.rule.specs.Form.{mostParams, mostBytes, opByte, encodeExpr, encodeArgs, Accepted}
-use Rattle.rule.specs.Reading.{nodeOf}
+use Rattle.syntax.specs.declared.Node.{Node}
+use Rattle.syntax.specs.Limits.{mostParams, mostBytes}
+use Rattle.rule.specs.Form.{opByte, encodeExpr, encodeArgs, Accepted}
+use Rattle.syntax.specs.Bytes.{nodeOf}
 use Rattle.rule.specs.Outline.{outlineOf}
 use Rattle.rule.proofs.NodeBytes.{opNode, node-false, node-true, node-empty, node-if, node-op, node-param, node-call}
 use Rattle.rule.proofs.Expressions.{place-below}

@@ -9,7 +9,7 @@ use mathlib.Core.List.{List}
 use lib.ListN.{length, getD, replicate}
 use borrow.Author.Tests.{ne-eqb}
 use Rattle.trace.specs.{bitOf}
-use Rattle.rule.specs.Form.{mostFunctions, mostBytes}
+use Rattle.syntax.specs.Limits.{mostFunctions, mostBytes}
 use Rattle.decoding.specs.Words.{functionsFrom, stride, mostWords, functionWord, kindWord}
 use Rattle.decoding.specs.Decoding.{endsDown, wordBy, wordsDown, entryOf, entriesUpto, wordsFilled}
 use Rattle.decoding.proofs.Sweep.{words-above, word-there, entries-length, entry-there}

@@ -8,9 +8,9 @@ use Prim.Native.Nat.{ℕ, zero, suc, _+_, _-_, _<_, _≤_}
 use native.Mathlib.Numerals.{add-one, sub-one}
 use native.Mathlib.Omega.{arith}
 use lib.ListN.{length, getD, set, replicate}
-use Rattle.rule.specs.declared.Node.{Node}
-use Rattle.rule.specs.Form.{mostBytes}
-use Rattle.rule.specs.Reading.{nodeOf}
+use Rattle.syntax.specs.declared.Node.{Node}
+use Rattle.syntax.specs.Limits.{mostBytes}
+use Rattle.syntax.specs.Bytes.{nodeOf}
 use Rattle.decoding.specs.Words.{functionsFrom}
 use Rattle.decoding.specs.Decoding.{endAt, endsAfter, operandsOf, endBy, endsDown, decodedBy, wordBy, wordsDown, entryOf, entriesUpto}
 

@@ -9,7 +9,7 @@ use mathlib.Core.Logic.{⊎-elim}
 use mathlib.Core.List.{List}
 use lib.ListN.{length, getD, set, length-set}
 use lib.Seq.{getD-set-same, getD-set-other}
-use Rattle.rule.specs.Reading.{nodeOf}
+use Rattle.syntax.specs.Bytes.{nodeOf}
 use Rattle.decoding.specs.Words.{functionsFrom}
 use Rattle.decoding.specs.Decoding.{endsDown, decodedBy, wordBy, wordsDown, entryOf, entriesUpto}
 

@@ -7,10 +7,10 @@ use lib.Dec.{ltb, eqb}
 use lib.ListN.{length, getD, set, replicate}
 use Rattle.trace.specs.{bitOf}
 use Rattle.semantics.specs.Cells.{undecidedCode, falseCode, trueCode, suffixCode}
-use Rattle.rule.specs.declared.Node.{Node}
-use Rattle.rule.specs.declared.Node.the-variants as node
-use Rattle.rule.specs.Form.{mostFunctions, mostBytes}
-use Rattle.rule.specs.Reading.{nodeOf}
+use Rattle.syntax.specs.declared.Node.{Node}
+use Rattle.syntax.specs.declared.Node.the-variants as node
+use Rattle.syntax.specs.Limits.{mostFunctions, mostBytes}
+use Rattle.syntax.specs.Bytes.{nodeOf}
 use Rattle.rule.specs.Walk.{atMostFour}
 use Rattle.decoding.specs.Words.{constantSort, paramSort, headSort, tailSort, nullSort, headParamSort, tailParamSort, nullParamSort, ifSort, ifParamSort, ifNullSort, ifHeadSort, callSort, callOneSort, packed, sortOf, paramOf, functionsFrom, stride, functionWord, kindWord}
 

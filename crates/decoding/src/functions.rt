@@ -3,7 +3,7 @@ ghost use mathlib.Core.Path.{_≡_};
 ghost use Rattle.decoding.specs.Words.{functionWord, kindWord, firstIn, heldIn, valuesIn, lowestIn};
 
 // Where the nodes end and the functions begin.
-pub const FUNCTIONS: usize = rule::MOST_BYTES;
+pub const FUNCTIONS: usize = syntax::MOST_BYTES;
 
 // How many words a function has: one of its own, and one for each parameter.
 pub const STRIDE: usize = 8;

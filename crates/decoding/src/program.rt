@@ -4,17 +4,17 @@ use crate::functions::FUNCTIONS;
 use crate::functions::STRIDE;
 use crate::functions::WORDS;
 use crate::nodes;
-use rule::Node;
+use syntax::Node;
 ghost use mathlib.Core.Path.{_≡_};
 ghost use Prim.Native.Nat.{_*_, _<_, _≤_, min};
 ghost use lib.ListN.{length, replicate};
-ghost use Rattle.rule.specs.Form.{mostFunctions, mostParams, mostBytes};
+ghost use Rattle.syntax.specs.Limits.{mostFunctions, mostParams, mostBytes};
 ghost use Rattle.decoding.specs.Words.{stride};
 ghost use Rattle.decoding.specs.Decoding.{endAt, endsAfter, argumentsOf, operandsOf, constantBy, unaryBy, conditionalBy, placed, calledBy};
 ghost use Rattle.decoding.specs.Decoding.{decodedBy, entryOf, entriesUpto, wordsDown, wordsFilled};
 
 // Where an expression ends that starts past the bytes of a program.
-const PAST: u16 = rule::MOST_BYTES as u16;
+const PAST: u16 = syntax::MOST_BYTES as u16;
 
 // Writes the words of a program and of so many functions, at most 32. `functions` has their first cells from 0
 // on and their kinds bytes from 32 on; each has so many samples to work on. A program's bytes beyond the longest
@@ -37,7 +37,7 @@ pub fn fill(
 fn put_functions(functions: &[u64; 96], count: u8, n: u16, words: &mut [u64; WORDS])
     ensures { λ _. ⌜ now (words .exit) ≡ entriesUpto (now (functions .entry)) n (stride * min count mostFunctions) (now (words .entry)) ⌝ }
 {
-    let last = STRIDE * codes::smaller(count as usize, rule::MOST_FUNCTIONS as usize);
+    let last = STRIDE * codes::smaller(count as usize, syntax::MOST_FUNCTIONS as usize);
     let mut k: usize = 0;
     while k < last {
         words[FUNCTIONS + k] = entry(functions, n, k);
@@ -64,11 +64,11 @@ fn entry(functions: &[u64; 96], n: u16, k: usize) -> u64
 fn put_nodes(program: &[u8], params: &[u8; 32], words: &mut [u64; WORDS])
     ensures { λ _. ⌜ now (words .exit) ≡ wordsDown (now (program .entry)) (now (params .entry)) (replicate mostBytes 0) (min mostBytes (length (now (program .entry)))) 0 (now (words .entry)) ⌝ }
 {
-    let mut ends = [0u16; rule::MOST_BYTES];
-    let mut at = codes::smaller(rule::MOST_BYTES, program.len());
+    let mut ends = [0u16; syntax::MOST_BYTES];
+    let mut at = codes::smaller(syntax::MOST_BYTES, program.len());
     while 0 < at {
         at -= 1;
-        let node = rule::node_of(program[at]);
+        let node = syntax::node_of(program[at]);
         let next = words[at + 1];
         words[at] = decoded(params, &ends, (at + 1) as u16, next, node);
         ends[at] = end_after(&ends, operands(params, node), (at + 1) as u16);
@@ -78,7 +78,7 @@ fn put_nodes(program: &[u8], params: &[u8; 32], words: &mut [u64; WORDS])
 // The word of a node, by the place after it, the ends of the expressions from there on and the word there.
 fn decoded(
     params: &[u8; 32],
-    ends: &[u16; rule::MOST_BYTES],
+    ends: &[u16; syntax::MOST_BYTES],
     first: u16,
     next: u64,
     node: Node,
@@ -135,7 +135,7 @@ fn conditional(condition: u64) -> u64
 }
 
 // A call of function g.
-fn call(params: &[u8; 32], ends: &[u16; rule::MOST_BYTES], g: u8, first: u16) -> u64
+fn call(params: &[u8; 32], ends: &[u16; syntax::MOST_BYTES], g: u8, first: u16) -> u64
     ensures { λ r. ⌜ r ≡ calledBy (now (ends .entry)) (argumentsOf (now (params .entry)) g) g first ⌝ }
 {
     let count = arguments(params, g);
@@ -148,7 +148,7 @@ fn call(params: &[u8; 32], ends: &[u16; rule::MOST_BYTES], g: u8, first: u16) ->
 }
 
 // A node whose operands stand one after the other from a place on.
-fn with_operands(ends: &[u16; rule::MOST_BYTES], sort: u64, small: u64, first: u16) -> u64
+fn with_operands(ends: &[u16; syntax::MOST_BYTES], sort: u64, small: u64, first: u16) -> u64
     ensures { λ r. ⌜ r ≡ placed (now (ends .entry)) sort small first ⌝ }
 {
     let second = end_at(ends, first);
@@ -158,14 +158,14 @@ fn with_operands(ends: &[u16; rule::MOST_BYTES], sort: u64, small: u64, first: u
 }
 
 // Where the expression at a place ends.
-fn end_at(ends: &[u16; rule::MOST_BYTES], at: u16) -> u16
+fn end_at(ends: &[u16; syntax::MOST_BYTES], at: u16) -> u16
     ensures { λ r. ⌜ r ≡ endAt (now (ends .entry)) at ⌝ }
 {
     if at < PAST { ends[at as usize] } else { PAST }
 }
 
 // The end of so many expressions, one after the other from a place on.
-fn end_after(ends: &[u16; rule::MOST_BYTES], count: u64, first: u16) -> u16
+fn end_after(ends: &[u16; syntax::MOST_BYTES], count: u64, first: u16) -> u16
     ensures { λ r. ⌜ r ≡ endsAfter (now (ends .entry)) count first ⌝ }
 {
     let mut left = count;

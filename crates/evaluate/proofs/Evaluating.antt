@@ -26,7 +26,8 @@ use Rattle.evaluate.specs.declared.Evaluated.{Evaluated}
 use Rattle.evaluate.specs.declared.Evaluated.the-variants as evaluated
 use Rattle.evaluate.specs.declared.PassMade.{PassMade}
 use Rattle.evaluate.specs.declared.PassMade.the-variants as made
-use Rattle.evaluate.specs.Evaluate.{evaluateCheck, evaluation, evaluatedAnswer, tableEvaluated, Demand3, passMade, madeAnswer, tablePassed}
+use Rattle.prepare.specs.Checks.{evaluateCheck}
+use Rattle.evaluate.specs.Evaluate.{evaluation, evaluatedAnswer, tableEvaluated, Demand3, passMade, madeAnswer, tablePassed}
 
 -- ---- Demand 3
 

@@ -1,4 +1,3 @@
 pub mod Settling
-pub mod Preparing
 pub mod Evaluating
 pub mod RowsGiven

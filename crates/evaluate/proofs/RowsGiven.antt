@@ -9,8 +9,10 @@ use Rattle.semantics.specs.Bodies.{bodyOutcome}
 use Rattle.semantics.specs.Visits.{lookup, heldAt, stored, visit, visits, stores, pass, passStores}
 use Rattle.semantics.specs.Passes.{tableAfter, passesFrom, passCount, finalTable}
 use Rattle.semantics.specs.Verdicts.{mainDecision, verdictOf}
-use Rattle.rule.specs.Reading.{headerOf, kindsFrom, rawsFrom, nodeOf, argsFrom, exprFrom, functionsFrom, programFrom}
-use Rattle.evaluate.specs.Evaluate.{evaluateCheck, evaluation}
+use Rattle.syntax.specs.Bytes.{headerOf, nodeOf}
+use Rattle.rule.specs.Reading.{kindsFrom, rawsFrom, argsFrom, exprFrom, functionsFrom, programFrom}
+use Rattle.prepare.specs.Checks.{evaluateCheck}
+use Rattle.evaluate.specs.Evaluate.{evaluation}
 use Rattle.evaluate.specs.Rows.{rows, allGive}
 
 pub rows-given : allGive 4 rows ≡ true

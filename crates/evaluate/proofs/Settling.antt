@@ -24,16 +24,17 @@ use Rattle.rule.specs.Form.{padded}
 use Rattle.rule.specs.Outline.{outlineOf}
 use Rattle.rule.proofs.Programs.{read-encoded}
 use Rattle.rule.specs.Reading.{programIn, programOf}
-use Rattle.fixpoint.specs.declared.setup.Cells.{Cells}
+use Rattle.passes.specs.declared.setup.Cells.{Cells}
 use Rattle.codes.specs.{mostTraceBytes}
 use Rattle.decoding.specs.Words.{mostWords}
 use Rattle.decoding.specs.Decoding.{wordsFilled}
-use Rattle.fixpoint.specs.Mirror.{Setup, setup, passVisits, passCounts, mostPasses, tableFrom, passesRun, cleared}
-use Rattle.evaluate.specs.Settled.{Settled}
-use Rattle.fixpoint.proofs.PassWays.{cleared-within}
-use Rattle.fixpoint.proofs.PassMeaning.{Runs, pass-means, counts-mean}
+use Rattle.passes.specs.Mirror.{Setup, setup, passVisits, passCounts, cleared}
+use Rattle.fixpoint.specs.{mostPasses, tableFrom, passesRun}
+use Rattle.prepare.specs.Settled.{Settled}
+use Rattle.passes.proofs.PassWays.{cleared-within}
+use Rattle.passes.proofs.PassMeaning.{Runs, pass-means, counts-mean}
 use Rattle.fixpoint.proofs.FinalMeaning.{table-means, passes-mean}
-use Rattle.fixpoint.proofs.RunsMeaning.{runs}
+use Rattle.passes.proofs.RunsMeaning.{runs}
 
 module _ {bytes trace : List ℕ} {n : ℕ} {outline : Outline} {places : Cells} {lent : ℕ} (u : Settled bytes trace n outline places lent) where
   pub program-is : programOf bytes ≡ u .program

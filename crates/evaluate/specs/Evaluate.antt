@@ -1,44 +1,26 @@
--- 'Evaluating' of document 01: its refusals (5 to 17, 20, 21), its answer and what it leaves in the table.
+-- 'Evaluating' of document 01: its answer and what it leaves in the table. Its refusals (5 to 17, 20, 21) are those of crate prepare.
 use Prim.Native.Nat.{ℕ}
 use mathlib.Core.Path.{_≡_}
-use mathlib.Core.Bool.{not, _||_}
 use mathlib.Core.List.{List, [], _∷_}
-use lib.Dec.{eqb, ltb}
 use lib.ListN.{length}
-use Rattle.refusal.specs.declared.Refusal.the-variants.{TraceLength, TableShort}
 use Rattle.refusal.specs.declared.Check.{Check}
 use Rattle.refusal.specs.declared.Check.the-variants as check
-use Rattle.refusal.specs.{refuseIf, _then_, changedIf, Answer, answered, refusedAs}
-use Rattle.trace.specs.{mostSamples, bytesFor, samples}
+use Rattle.refusal.specs.{changedIf, Answer, answered, refusedAs}
+use Rattle.trace.specs.{samples}
 use Rattle.semantics.specs.declared.Verdict.{Verdict}
 use Rattle.semantics.specs.Language.{Program}
-use Rattle.semantics.specs.Numbering.{cells, mostCells}
+use Rattle.semantics.specs.Numbering.{cells}
 use Rattle.semantics.specs.Visits.{pass, passStores}
 use Rattle.semantics.specs.Verdicts.{verdictOf, verdictValues}
 use Rattle.semantics.specs.Demand.{Decides}
 use Rattle.rule.specs.Form.{Accepted}
 use Rattle.semantics.specs.Passes.{decidedTable}
-use Rattle.rule.specs.Reading.{Parsed, got, refused, programFrom, programOf}
+use Rattle.rule.specs.Reading.{programOf}
+use Rattle.prepare.specs.Checks.{traceCheck, tableCheck, evaluateCheck}
 use Rattle.evaluate.specs.declared.Evaluated.{Evaluated}
 use Rattle.evaluate.specs.declared.Evaluated.the-variants as evaluated
 use Rattle.evaluate.specs.declared.PassMade.{PassMade}
 use Rattle.evaluate.specs.declared.PassMade.the-variants as made
-
--- 20: 'a lent trace has n above 4,095 or not n / 8 rounded up bytes'
-abbrev pub traceCheck : ℕ → ℕ → Check
-traceCheck n bytes = refuseIf (ltb mostSamples n || not (eqb bytes (bytesFor n))) TraceLength
-
--- 21: 'the cells needed exceed the lent table or 16,777,216'
-abbrev pub tableCheck : ℕ → ℕ → Check
-tableCheck needed lent = refuseIf (ltb lent needed || ltb mostCells needed) TableShort
-
--- 5 to 17, 20, 21, in this order; the program is what its bytes are read as
-abbrev pub checkRead : Parsed Program → List ℕ → ℕ → ℕ → Check
-checkRead (got P rest) trace n lent = traceCheck n (length trace) then tableCheck (cells (samples trace n) P) lent
-checkRead (refused f) trace n lent = check.Refused f
-
-unfoldable pub evaluateCheck : List ℕ → List ℕ → ℕ → ℕ → Check
-evaluateCheck program trace n lent = checkRead (programFrom program) trace n lent
 
 -- ---- Evaluating
 

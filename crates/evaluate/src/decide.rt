@@ -1,8 +1,7 @@
 // What a settled evaluation decides, and what one pass of it stores.
 use decoding::functions::WORDS;
-use fixpoint::passes;
-use fixpoint::setup;
-use fixpoint::setup::Cells;
+use passes::setup;
+use passes::setup::Cells;
 use rule::Outline;
 use semantics::Verdict;
 ghost use mathlib.Core.Path.{_≡_};
@@ -12,7 +11,7 @@ ghost use Rattle.semantics.specs.Visits.{pass, passStores};
 ghost use Rattle.semantics.specs.Verdicts.{verdictOf};
 ghost use Rattle.semantics.specs.Passes.{decidedTable};
 ghost use Rattle.rule.specs.Reading.{programOf};
-ghost use Rattle.evaluate.specs.Settled.{Settled};
+ghost use Rattle.prepare.specs.Settled.{Settled};
 
 // The verdict of a settled evaluation, and its cells in the table.
 pub fn decide(
@@ -37,7 +36,7 @@ pub fn decide(
         &mut words,
     );
     passes::clear(table, places.total as usize);
-    let passes = passes::run(
+    let passes = fixpoint::run(
         &words,
         &setup::trace_of(trace),
         &places.functions,

@@ -1,6 +1,5 @@
 // The verdict of a rule program on a trace, in a table that the caller lends.
 mod decide;
-mod prepare;
 
 use refusal::Check;
 use refusal::Refusal;
@@ -14,7 +13,8 @@ ghost use Rattle.semantics.specs.Visits.{passStores};
 ghost use Rattle.semantics.specs.Verdicts.{verdictOf, verdictValues};
 ghost use Rattle.rule.specs.Reading.{programOf};
 ghost use Rattle.evaluate.specs.declared.Evaluated.the-variants as Evaluated;
-ghost use Rattle.evaluate.specs.Evaluate.{evaluateCheck, evaluation, evaluatedAnswer, tableEvaluated, Demand3, passMade, madeAnswer, tablePassed};
+ghost use Rattle.prepare.specs.Checks.{evaluateCheck};
+ghost use Rattle.evaluate.specs.Evaluate.{evaluation, evaluatedAnswer, tableEvaluated, Demand3, passMade, madeAnswer, tablePassed};
 
 // What evaluating answers: the verdict with its pass count, or the refusal.
 pub enum Evaluated {

@@ -25,7 +25,8 @@ use Rattle.semantics.specs.Bodies.{withValue, withValues}
 use Rattle.semantics.specs.Visits.{Table, lookup}
 use Rattle.semantics.proofs.Numbering.{size-pos, number-lt}
 use Rattle.semantics.proofs.Visits.{lookup-held}
-use Rattle.rule.specs.Form.{mostParams, kindsByte}
+use Rattle.syntax.specs.Limits.{mostParams}
+use Rattle.rule.specs.Form.{kindsByte}
 use Rattle.rule.specs.Reading.{kindAt, kindsFrom}
 use Rattle.rule.proofs.KindBytes.{kinds-back}
 use Rattle.rule.proofs.WalkMeaning.{kind-bit}

@@ -17,7 +17,8 @@ use Rattle.semantics.specs.Language.{Kind, isList, Function, Program, Trace, Va
 use Rattle.semantics.specs.Numbering.{size, number, valuesAt, cells, cellOf, configAt}
 use Rattle.semantics.specs.Cells.{contentOf, outcomeIn}
 use Rattle.semantics.proofs.Numbering.{number-values, values-in, config-cell}
-use Rattle.rule.specs.Form.{mostParams, kindsByte}
+use Rattle.syntax.specs.Limits.{mostParams}
+use Rattle.rule.specs.Form.{kindsByte}
 use Rattle.rule.proofs.KindBytes.{kinds-back}
 use Rattle.rule.proofs.WalkMeaning.{kind-bit}
 use Rattle.codes.proofs.CodeMeaning.{decided-means}

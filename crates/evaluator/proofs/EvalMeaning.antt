@@ -16,9 +16,10 @@ use Rattle.semantics.specs.Bodies.{paramValue, bodyOutcome, argsOutcome, withVa
 use Rattle.semantics.specs.Visits.{Table, lookup}
 use Rattle.semantics.proofs.Bodies.{kinded}
 use Rattle.semantics.proofs.Visits.{lookup-kinds}
-use Rattle.rule.specs.declared.Node.{Node}
-use Rattle.rule.specs.Form.{mostParams, mostBytes, encodeExpr, encodeArgs, kindsByte, depth, depthAll}
-use Rattle.rule.specs.Reading.{nodeOf}
+use Rattle.syntax.specs.declared.Node.{Node}
+use Rattle.syntax.specs.Limits.{mostParams, mostBytes}
+use Rattle.rule.specs.Form.{encodeExpr, encodeArgs, kindsByte, depth, depthAll}
+use Rattle.syntax.specs.Bytes.{nodeOf}
 use Rattle.rule.specs.Outline.{outlineOf}
 use Rattle.rule.proofs.NodeBytes.{node-false, node-true, node-empty, node-if, node-op, node-param, node-call}
 use Rattle.rule.proofs.Expressions.{place-below}

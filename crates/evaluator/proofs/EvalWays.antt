@@ -7,12 +7,13 @@
 --   not-below                                    an argument that has a digit
 --   function-at, param-at, first-param-at        the words of a function, by their places
 --   args-count, one-stop, one-found              a call, by the number of its arguments
+--   next-index-is, lookup-is                     digits and numbers of configurations that need no cutting
 --   lookup-past                                  what the table holds past its cells
 use mathlib.Core.Path.{_≡_, refl, sym, ap, _∙_}
 use mathlib.Core.Bool.{Bool, true, false, cond}
 use mathlib.Core.List.{List}
 use Prim.Native.Nat.{ℕ, zero, suc, _+_, _-_, _*_, _/_, _%_, _^_, _<_, _≤_}
-use native.Mathlib.Nat.{mul-le-mul}
+use native.Mathlib.Nat.{mul-le-mul, mod-eq-of-lt}
 use native.Mathlib.Numerals.{sub-one}
 use native.Mathlib.Omega.{arith}
 use lib.Dec.{leb, ltb, eqb}
@@ -90,15 +91,18 @@ module _ (W trace T env : List ℕ) (d w : ℕ) where
 pub wraps : (kind c r : ℕ) {low : ℕ} → c < digitBound → r < 2 ^ 64 → low ≡ lowestIn kind → (r + low) % 2 ^ 64 ≡ c → Digit kind c r
 wraps kind c r {low} h l e q = go (ltb c (lowestIn kind)) refl
   where
+    back : (r + lowestIn kind) % 2 ^ 64 ≡ c
+    back = ap (λ (k : ℕ). (r + k) % 2 ^ 64) (sym e) ∙ q
+
     go : (b : Bool) → ltb c (lowestIn kind) ≡ b → Digit kind c r
     go true t =
         let below = ltb-true c (lowestIn kind) t in
         let far : valuesIn kind ≤ r = omega arith in
-        (simp (t, le-leb _ _ far), λ o. absurd (omega arith))
+        (simp (t, le-leb _ _ far), λ o. absurd (omega arith), back)
     go false t =
         let above = ltb-false c (lowestIn kind) t in
         let same : r ≡ c - lowestIn kind = omega arith in
-        (simp (t, same), λ o. same)
+        (simp (t, same), λ o. same, back)
 
 -- ---- Calls
 
@@ -188,6 +192,18 @@ module _ (W T : List ℕ) (eval : ℕ → ℕ) (g places : ℕ) {kind v digit va
       let small : digit < mostIndex = omega arith in
       let start = along-start W T eval g 1 places (omega arith) in
       along-end (along-more start (omega arith) k e d q l (not-below kind v digit d q l) same small) (omega arith) f
+
+-- ---- Numbers within their bounds
+
+pub next-index-is : (index radix digit : ℕ) {x : ℕ} → radix < digitBound → digit < digitBound
+    → x ≡ nextIndex index (radix % digitBound) (digit % digitBound) → x ≡ nextIndex index radix digit
+next-index-is index radix digit h k e =
+    e
+    ∙ ap (λ (r : ℕ). nextIndex index r (digit % digitBound)) (mod-eq-of-lt h)
+    ∙ ap (λ (d : ℕ). nextIndex index radix d) (mod-eq-of-lt k)
+
+pub lookup-is : (function : ℕ) (T : List ℕ) (index : ℕ) {x : ℕ} → index < mostIndex → x ≡ lookupBy function T (index % mostIndex) → x ≡ lookupBy function T index
+lookup-is function T index h e = e ∙ ap (lookupBy function T) (mod-eq-of-lt h)
 
 -- ---- What the table holds
 

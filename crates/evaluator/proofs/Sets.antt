@@ -12,7 +12,8 @@ use Rattle.trace.specs.{mostSamples, bitOf}
 use Rattle.semantics.specs.Language.{Function, Program, Trace, Value, given, isList}
 use Rattle.semantics.specs.Numbering.{cells, mostCells}
 use Rattle.semantics.specs.Cells.{falseCode, trueCode, codeOf}
-use Rattle.rule.specs.Form.{mostFunctions, mostParams, mostBytes, kindsByte}
+use Rattle.syntax.specs.Limits.{mostFunctions, mostParams, mostBytes}
+use Rattle.rule.specs.Form.{kindsByte}
 use Rattle.rule.specs.Outline.{outlineOf}
 use Rattle.codes.specs.{sampleCode}
 use Rattle.decoding.specs.Words.{functionWord, kindWord}

@@ -1,6 +1,6 @@
 -- A mirror of the code: outcomes as their numbers, expressions by their decoded words. No reader need believe it: proofs/
 -- shows that it comes to what the rules say.
-use Prim.Native.Nat.{ℕ, zero, suc, _+_, _-_, _*_, _/_, _%_, _≤_}
+use Prim.Native.Nat.{ℕ, zero, suc, _+_, _-_, _*_, _/_, _%_, _^_, _≤_}
 use mathlib.Core.Path.{_≡_}
 use mathlib.Core.Bool.{cond}
 use mathlib.Core.List.{List}
@@ -35,9 +35,12 @@ nextIndex index radix digit = index % bound * radix + digit
 abbrev pub mostIndex : ℕ
 mostIndex = 562949953421312
 
--- the digit of a value, which comes after all digits where the value is foreign to its kind
+-- the digit of a value, which comes after all digits where the value is foreign to its kind: below the lowest it wraps round
 abbrev pub Digit : ℕ → ℕ → ℕ → Type 0
-Digit kind c digit = (leb (valuesIn kind) digit ≡ foreign (lowestIn kind) (valuesIn kind) c) × (lowestIn kind ≤ c → digit ≡ c - lowestIn kind)
+Digit kind c digit =
+    (leb (valuesIn kind) digit ≡ foreign (lowestIn kind) (valuesIn kind) c)
+    × (lowestIn kind ≤ c → digit ≡ c - lowestIn kind)
+    × ((digit + lowestIn kind) % 2 ^ 64 ≡ c)
 
 unfoldable pub lookupBy : ℕ → List ℕ → ℕ → ℕ
 lookupBy function table index = heldIn function (getD table (firstIn function + index) 0)

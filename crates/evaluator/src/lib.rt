@@ -6,29 +6,14 @@ use decoding::functions::STRIDE;
 use decoding::functions::WORDS;
 use decoding::nodes;
 ghost use mathlib.Core.Path.{_≡_};
-ghost use Prim.Native.Nat.{_<_};
+ghost use Prim.Native.Nat.{_%_, _<_};
 ghost use lib.ListN.{getD};
 ghost use Rattle.decoding.specs.Words.{paramOf};
-ghost use Rattle.rule.specs.Form.{mostDepth};
 ghost use Rattle.evaluator.specs.{digitBound, mostIndex, nextIndex, Digit, lookupBy, branchAt, callAt, callOneAt, evalWord};
-
-// The number of the outcome of a body, by its word. `env` has the numbers of the parameter values, and at 4 the
-// length of the trace.
-pub fn outcome(
-    words: &[u64; WORDS],
-    trace: &[u8; codes::TRACE_BYTES],
-    table: &[u16],
-    env: &[u16; 5],
-    body: u64,
-) -> u16
-    ensures { λ r. ⌜ r ≡ evalWord (now (words .entry)) (now (trace .entry)) (now (table .entry)) (now (env .entry)) mostDepth body ⌝ }
-{
-    eval(words, trace, &table, env, rule::MOST_DEPTH, body)
-}
 
 // The number of the outcome of a node. The table is a reference to its slice: it goes from call to call as one
 // word. The sorts stand here by number, all sixteen, so that no range is tested.
-fn eval(
+pub fn eval(
     words: &[u64; WORDS],
     trace: &[u8; codes::TRACE_BYTES],
     table: &&[u16],
@@ -193,33 +178,33 @@ fn call_one(
 }
 
 // The value of the parameter that a node names.
-fn param(env: &[u16; 5], node: u64) -> u16
+pub fn param(env: &[u16; 5], node: u64) -> u16
     ensures { λ r. ⌜ r ≡ getD (now (env .entry)) (paramOf node) 0 ⌝ }
 {
     env[nodes::param(node)]
 }
 
 // The place of a value among those of its kind; what is no value of it comes after them all.
-fn digit(kind: u64, value: u16) -> u64
+pub fn digit(kind: u64, value: u16) -> u64
     ensures { λ r. ⌜ Digit kind value r ⌝ }
 {
     std::num::wrapping_sub_u64(value as u64, functions::lowest(kind))
 }
 
-// One digit more of a configuration's number; the numbers of a table that is lent stay far below 2 ^ 32.
-fn next_index(index: u64, radix: u64, digit: u64) -> u64
-    requires { ⌜ (radix < digitBound) × (digit < digitBound) ⌝ }
-    ensures { λ r. ⌜ (r ≡ nextIndex index radix digit) × (r < mostIndex) ⌝ }
+// One digit more of a configuration's number. The numbers of a table that is lent stay far below 2 ^ 32, and
+// radices and digits below 2 ^ 16; of others the lowest bits are taken.
+pub fn next_index(index: u64, radix: u64, digit: u64) -> u64
+    ensures { λ r. ⌜ (r ≡ nextIndex index (radix % digitBound) (digit % digitBound)) × (r < mostIndex) ⌝ }
 {
-    (index % 4294967296) * radix + digit
+    (index % 4294967296) * (radix % 65536) + digit % 65536
 }
 
-// What the table holds for a configuration of a function, by the function's word.
-fn lookup(function: u64, table: &&[u16], index: u64) -> u16
-    requires { ⌜ index < mostIndex ⌝ }
-    ensures { λ r. ⌜ r ≡ lookupBy function (now (now (table .entry))) index ⌝ }
+// What the table holds for a configuration of a function, by the function's word. The configuration's number is
+// below 2 ^ 49; of others the lowest bits are taken.
+pub fn lookup(function: u64, table: &&[u16], index: u64) -> u16
+    ensures { λ r. ⌜ r ≡ lookupBy function (now (now (table .entry))) (index % mostIndex) ⌝ }
 {
-    let cell = (functions::first_cell(function) + index) as usize;
+    let cell = (functions::first_cell(function) + index % 562949953421312) as usize;
     let cells = *table;
     if cells.len() <= cell {
         return codes::UNDECIDED;

@@ -15,8 +15,9 @@ use Rattle.semantics.specs.Visits.{Table, passStores}
 use Rattle.semantics.specs.Passes.{tableAfter, passCount, finalTable}
 use Rattle.semantics.specs.Demand.{FirstStill}
 use Rattle.semantics.proofs.Passes.{length-after, first-still, count-in-time, pass-append, stores-append}
-use Rattle.fixpoint.specs.Mirror.{Setup, passVisits, passCounts, tableFrom, passesRun, mostPasses}
-use Rattle.fixpoint.proofs.PassMeaning.{Runs, pass-means, counts-mean}
+use Rattle.passes.specs.Mirror.{Setup, passVisits, passCounts}
+use Rattle.passes.proofs.PassMeaning.{Runs, pass-means, counts-mean}
+use Rattle.fixpoint.specs.{mostPasses, tableFrom, passesRun}
 
 module _ (P : Program) (t : Trace) (bytes : List ℕ) (S : Setup) (starts : List ℕ) (r : Runs P t bytes S starts) (rest : List ℕ) where
   -- what the first k passes leave has room for the cells

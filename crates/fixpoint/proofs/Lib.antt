@@ -1,10 +1,2 @@
-pub mod SetupLoops
-pub mod PassWays
-pub mod Rows
-pub mod RowLoop
-pub mod FunctionsMeaning
-pub mod ValuesMeaning
-pub mod SetupMeaning
-pub mod PassMeaning
+pub mod Running
 pub mod FinalMeaning
-pub mod RunsMeaning

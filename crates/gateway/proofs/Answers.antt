@@ -12,7 +12,7 @@ use Rattle.refusal.specs.{numberOf, Answer, answered, valuesLeft}
 use Rattle.refusal.proofs.Numbers.{refused-left}
 use Rattle.trace.specs.{digit}
 use Rattle.semantics.specs.declared.Verdict.{Verdict}
-use Rattle.record.specs.Reading.{contentsIn}
+use Rattle.layout.specs.Trailer.{contentsIn}
 use Rattle.record.specs.Checking.{agrees, compared, checkedAnswer, comparedIn}
 use Rattle.gateway.specs.{firstAlone, agreementValues}
 

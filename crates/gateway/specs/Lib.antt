@@ -6,7 +6,7 @@ use Rattle.refusal.specs.{Answer}
 use Rattle.trace.specs.{digit}
 use Rattle.ring.specs.declared.Ring.{Ring}
 use Rattle.semantics.specs.declared.Verdict.{Verdict}
-use Rattle.record.specs.Reading.{contentsIn}
+use Rattle.layout.specs.Trailer.{contentsIn}
 use Rattle.record.specs.Checking.{agrees}
 
 -- a state of two numbers: the next place, the count

@@ -1,8 +1,8 @@
 // The functions that the daemon in C calls, on bytes and numbers alone. include/sikafondza.h declares
 // them for C and is their documentation.
 use evaluate::Evaluated;
+use layout::Reading;
 use record::Checked;
-use record::Reading;
 use record::Written;
 use ring::Added;
 use ring::Ring;

@@ -1,11 +1,10 @@
 -- What reading and checking answer, one law for each way through the code:
---   read-passed, read-refused                the check behind an answer of reading
---   evaluation-refused, evaluation-passed     and behind one of evaluating
---   located-refusal, located-passed,
---   parts-are                                the trailer's check
+--   evaluation-refused, evaluation-passed     the check behind an answer of evaluating
 --   located-refused, program-refused,
 --   program-passed                           reading
 --   read-owed                                its answer, and that in numbers
+--   record-read                              bytes that are read have passed the checks, and the parts are theirs
+--   parts-within                             the parts lie within the bytes
 use mathlib.Core.Path.{_≡_, refl, sym, ap, _∙_}
 use mathlib.Core.List.{List}
 use Prim.Native.Nat.{ℕ}
@@ -13,40 +12,22 @@ use Rattle.refusal.specs.declared.Refusal.{Refusal}
 use Rattle.refusal.specs.declared.Check.{Check}
 use Rattle.refusal.specs.declared.Check.the-variants.{Passed, Refused}
 use Rattle.refusal.specs.{answerIf}
+use Rattle.refusal.proofs.Checks.{then-passed}
 use Rattle.semantics.specs.declared.Verdict.{Verdict}
 use Rattle.rule.specs.Reading.{programCheck}
 use Rattle.evaluate.specs.declared.Evaluated.{Evaluated}
 use Rattle.evaluate.specs.declared.Evaluated.the-variants as evaluated
-use Rattle.evaluate.specs.Evaluate.{evaluateCheck, answerBy, evaluation}
-use Rattle.record.specs.declared.Parts.{Parts}
-use Rattle.record.specs.declared.Reading.{Reading}
-use Rattle.record.specs.declared.Reading.the-variants as read
-use Rattle.record.specs.Reading.{partOf, trailerCheck, partsIn, readCheck, readBy, reading, readAnswer, partsValues}
+use Rattle.prepare.specs.Checks.{evaluateCheck}
+use Rattle.evaluate.specs.Evaluate.{answerBy, evaluation}
+use Rattle.layout.specs.declared.Parts.{Parts}
+use Rattle.layout.specs.declared.Reading.{Reading}
+use Rattle.layout.specs.declared.Reading.the-variants as read
+use Rattle.layout.specs.Trailer.{partOf, trailerCheck, partsIn, contentsIn, readBy, located}
+use Rattle.layout.proofs.Answers.{read-passed, located-refusal, located-passed, parts-are}
+use Rattle.layout.proofs.Fields.{Fields, passed-fields}
+use Rattle.layout.proofs.Places.{Within, within}
+use Rattle.record.specs.Reading.{readCheck, reading, readAnswer, partsValues}
 use Rattle.record.specs.Recording.{workedOut}
-use Rattle.record.specs.Steps.{located}
-
--- ---- Answers of reading
-
-abbrev partsOf : Parts → Reading → Parts
-partsOf p (read.Record q) = q
-partsOf p (read.Refused f) = p
-
-abbrev checkOf : Reading → Check
-checkOf (read.Record q) = Passed
-checkOf (read.Refused f) = Refused f
-
-check-of : (c : Check) (p : Parts) → checkOf (readBy c p) ≡ c
-check-of Passed p = refl
-check-of (Refused f) p = refl
-
-pub read-refused : (c : Check) (p : Parts) {f : Refusal} → readBy c p ≡ read.Refused f → c ≡ Refused f
-read-refused c p e = sym (check-of c p) ∙ ap checkOf e
-
-pub read-passed : (c : Check) (p q : Parts) → readBy c p ≡ read.Record q → (c ≡ Passed) × (p ≡ q)
-read-passed c p q e =
-    let passed : c ≡ Passed = sym (check-of c p) ∙ ap checkOf e in
-    let both : readBy Passed p ≡ read.Record q = rw passed at e in
-    (passed, ap (partsOf p) both)
 
 -- ---- Answers of evaluating
 
@@ -77,30 +58,18 @@ module _ (program trace : List ℕ) (n lent : ℕ) {r : Evaluated} (e : r ≡ ev
 -- ---- Reading
 
 module _ (bytes : List ℕ) {r : Reading} (l : r ≡ located bytes) where
-  pub located-refusal : {f : Refusal} → r ≡ read.Refused f → trailerCheck bytes ≡ Refused f
-  unfolding located
-  located-refusal e = read-refused (trailerCheck bytes) (partsIn bytes) (sym l ∙ e)
-
   pub located-refused : {f : Refusal} → r ≡ read.Refused f → read.Refused f ≡ reading bytes
   unfolding reading readCheck
-  located-refused e = rw (located-refusal e)
+  located-refused e = rw (located-refusal bytes l e)
 
   module _ {p : Parts} (e : r ≡ read.Record p) where
-    pub located-passed : trailerCheck bytes ≡ Passed
-    unfolding located
-    located-passed = read-passed (trailerCheck bytes) (partsIn bytes) p (sym l ∙ e) .0
-
-    pub parts-are : partsIn bytes ≡ p
-    unfolding located
-    parts-are = read-passed (trailerCheck bytes) (partsIn bytes) p (sym l ∙ e) .1
-
     pub program-refused : {f : Refusal} → programCheck (partOf bytes (p .program)) ≡ Refused f → read.Refused f ≡ reading bytes
     unfolding reading readCheck
-    program-refused c = rw (located-passed, parts-are, c)
+    program-refused c = rw (located-passed bytes l e, parts-are bytes l e, c)
 
     pub program-passed : programCheck (partOf bytes (p .program)) ≡ Passed → read.Record p ≡ reading bytes
     unfolding reading readCheck
-    program-passed c = rw (located-passed, parts-are, c)
+    program-passed c = rw (located-passed bytes l e, parts-are bytes l e, c)
 
 -- all that is promised of an answer: which it is, and its numbers
 pub read-owed : (bytes : List ℕ) {r : Reading} → r ≡ reading bytes
@@ -111,3 +80,21 @@ read-owed bytes e = (e, ap readAnswer e ∙ go (readCheck bytes))
     go : (k : Check) → readAnswer (readBy k (partsIn bytes)) ≡ answerIf k (partsValues (partsIn bytes))
     go Passed = refl
     go (Refused f) = refl
+
+-- ---- Bytes that are read
+
+-- what bytes that are read as a record have passed
+pub record Read (bytes : List ℕ) (p : Parts) : Type 0 where
+  pub fields : Fields bytes
+  pub program : programCheck (contentsIn bytes .program) ≡ Passed
+  pub parts : partsIn bytes ≡ p
+
+pub record-read : (bytes : List ℕ) (p : Parts) → reading bytes ≡ read.Record p → Read bytes p
+unfolding reading readCheck
+record-read bytes p e =
+    let r = read-passed (readCheck bytes) (partsIn bytes) p e in
+    let c = then-passed (trailerCheck bytes) (programCheck (contentsIn bytes .program)) (r .0) in
+    record { fields = passed-fields bytes (c .0); program = c .1; parts = r .1 }
+
+pub parts-within : (bytes : List ℕ) (p : Parts) → reading bytes ≡ read.Record p → Within bytes p
+parts-within bytes p e = let r = record-read bytes p e in rw (r .parts) at (within bytes (r .fields))

@@ -26,23 +26,26 @@ use Rattle.rule.specs.Reading.{Parsed, got, programFrom, programCheck, checkFro
 use Rattle.rule.specs.Reading as reading
 use Rattle.evaluate.specs.declared.Evaluated.{Evaluated}
 use Rattle.evaluate.specs.declared.Evaluated.the-variants as evaluated
-use Rattle.evaluate.specs.Evaluate.{traceCheck, tableCheck, checkRead, evaluateCheck, evaluation, tableEvaluated}
+use Rattle.prepare.specs.Checks.{traceCheck, tableCheck, checkRead, evaluateCheck}
+use Rattle.evaluate.specs.Evaluate.{evaluation, tableEvaluated}
 use Rattle.evaluate.proofs.Evaluating.{evaluation-decides}
-use Rattle.record.specs.declared.Parts.{Parts}
-use Rattle.record.specs.declared.Reading.{Reading}
-use Rattle.record.specs.declared.Reading.the-variants as read
+use Rattle.layout.specs.declared.Parts.{Parts}
+use Rattle.layout.specs.declared.Reading.{Reading}
+use Rattle.layout.specs.declared.Reading.the-variants as read
+use Rattle.layout.specs.Form.{Contents, samplesOf}
+use Rattle.layout.specs.Trailer.{partOf, contentsIn, trailerCheck, partsIn, readBy, located}
+use Rattle.layout.proofs.Answers.{located-refusal, located-passed, parts-are}
+use Rattle.layout.proofs.Fields.{passed-fields}
+use Rattle.layout.proofs.Places.{length-part}
 use Rattle.record.specs.declared.Checked.{Checked}
 use Rattle.record.specs.declared.Checked.the-variants as checked
 use Rattle.record.specs.declared.Examined.{Examined}
-use Rattle.record.specs.Form.{Contents, samplesOf}
-use Rattle.record.specs.Reading.{partOf, contentsIn, trailerCheck, partsIn, readCheck, readBy}
+use Rattle.record.specs.Reading.{readCheck}
 use Rattle.record.specs.Reading.{reading as readingOf}
 use Rattle.record.specs.Checking.{recordCheck, agrees, compared, checkedBy, checking, tableChecked, examining, CheckDemand3, comparedIn, checkedAnswer, programHeld, checkNumbers}
-use Rattle.record.specs.Steps.{located, bothRefused, refusedBy}
-use Rattle.record.proofs.Answers.{evaluation-refused, evaluation-passed, located-refusal, located-passed, parts-are}
+use Rattle.record.specs.Steps.{bothRefused, refusedBy}
+use Rattle.record.proofs.Answers.{evaluation-refused, evaluation-passed}
 use Rattle.refusal.proofs.Checks.{then-passed}
-use Rattle.record.proofs.Fields.{passed-fields}
-use Rattle.record.proofs.Places.{length-part}
 
 -- ---- The checks
 

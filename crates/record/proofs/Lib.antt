@@ -1,10 +1,6 @@
 pub mod Answers
-pub mod Fields
-pub mod Places
 pub mod Inverse
 pub mod Ends
 pub mod Recorded
-pub mod Locating
-pub mod Filling
 pub mod Examining
 pub mod Writing

@@ -13,7 +13,7 @@ use borrow.Author.Tests.{eq-eqb}
 use Rattle.refusal.specs.declared.Check.the-variants as check
 use Rattle.refusal.specs.{_then_}
 use Rattle.trace.specs.{mostSamples, bytesFor, samples, pack}
-use Rattle.trace.proofs.Packing.{length-samples, length-pack, samples-pack}
+use Rattle.trace.proofs.Packing.{length-samples, samples-pack}
 use Rattle.semantics.specs.declared.Outcome.{Outcome}
 use Rattle.semantics.specs.declared.Verdict.{Verdict}
 use Rattle.semantics.specs.Language.{truth, Program}
@@ -26,16 +26,20 @@ use Rattle.rule.specs.Form.{AreBytes, Accepted}
 use Rattle.rule.specs.Reading.{Parsed, got, checkFrom, programFrom, programCheck, programIn, programOf}
 use Rattle.rule.specs.Reading as reading
 use Rattle.rule.proofs.Programs.{passed-accepted, read-encoded}
-use Rattle.evaluate.specs.Evaluate.{traceCheck, tableCheck, checkRead, evaluateCheck}
-use Rattle.evaluate.proofs.Preparing.{trace-passed, table-passed}
+use Rattle.prepare.specs.Checks.{traceCheck, tableCheck, checkRead, evaluateCheck}
+use Rattle.prepare.proofs.Preparing.{trace-passed, table-passed}
+use Rattle.layout.specs.Form.{Contents, labelBytes, mostVerdict, samplesOf, layout, Stated}
+use Rattle.layout.specs.Trailer.{contentsIn}
+use Rattle.layout.specs.Filling.{recorded}
+use Rattle.layout.proofs.Filling.{packed-size}
+use Rattle.layout.proofs.Inverse.{contents-in}
 use Rattle.record.specs.declared.Checked.the-variants as checked
-use Rattle.record.specs.Form.{Contents, labelBytes, mostVerdict, samplesOf, layout, Stated}
-use Rattle.record.specs.Reading.{contentsIn, readCheck}
-use Rattle.record.specs.Recording.{workedOut, recorded, recordOf, writeCheck}
+use Rattle.record.specs.Reading.{readCheck}
+use Rattle.record.specs.Recording.{workedOut, recordOf, writeCheck}
 use Rattle.record.specs.Checking.{recordCheck, checkedBy, checking, programHeld}
 use Rattle.record.specs.Inverse.{ReadsBack}
 use Rattle.refusal.proofs.Checks.{then-passed}
-use Rattle.record.proofs.Inverse.{contents-in, layout-passed, read-back}
+use Rattle.record.proofs.Inverse.{layout-passed, read-back}
 
 -- ---- The samples
 
@@ -116,7 +120,7 @@ module _ (program trace : List ℕ) (n : ℕ) (label : List ℕ) (lent room : �
       record {
         program = (evaluated .P, evaluated .accepted);
         few = evaluated .few;
-        packed = length-pack (samples trace n) ∙ ap bytesFor (length-samples trace n);
+        packed = packed-size trace n;
         label = size;
         verdict = verdict-small _;
         some = counted .0;

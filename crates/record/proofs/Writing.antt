@@ -4,11 +4,11 @@
 --   refused-written, refused-table  a refusal
 --   passed-written                  a record
 --   written-owed                    all that is promised of either, with demand 3
---   fillable                        what a passed check leaves for the record
+--   stated                          what is recorded is what a record can hold
+--   filled-written                  so it is written whole
 use mathlib.Core.Path.{_≡_, ap, _∙_, refl}
 use mathlib.Core.List.{List, _∷_}
 use Prim.Native.Nat.{ℕ, _<_, _≤_}
-use native.Mathlib.Omega.{arith}
 use lib.ListN.{length}
 use borrow.Author.Tests.{lt-ltb, le-ltb}
 use Rattle.refusal.specs.declared.Refusal.{Refusal}
@@ -19,14 +19,16 @@ use Rattle.refusal.specs.declared.Check.{Check}
 use Rattle.semantics.specs.declared.Verdict.{Verdict}
 use Rattle.semantics.specs.Verdicts.{verdictValues}
 use Rattle.rule.specs.Form.{AreBytes}
-use Rattle.evaluate.specs.Evaluate.{evaluateCheck, tableEvaluated}
+use Rattle.prepare.specs.Checks.{evaluateCheck}
+use Rattle.evaluate.specs.Evaluate.{tableEvaluated}
 use Rattle.encoding.specs.{begins}
 use Rattle.evaluate.proofs.Evaluating.{evaluation-decides}
+use Rattle.layout.specs.Form.{labelBytes, layout, Stated}
+use Rattle.layout.specs.Filling.{recorded, filled}
+use Rattle.layout.proofs.Filling.{filled-begins}
 use Rattle.record.specs.declared.Written.{Written}
 use Rattle.record.specs.declared.Written.the-variants as written
-use Rattle.record.specs.Form.{labelBytes, layout}
-use Rattle.record.specs.Recording.{workedOut, recorded, recordOf, writeCheck, writing, outputWritten, tableWritten, writtenAnswer, writtenBy, RecordDemand3}
-use Rattle.record.specs.Steps.{Fillable}
+use Rattle.record.specs.Recording.{workedOut, recordOf, writeCheck, writing, outputWritten, tableWritten, writtenAnswer, writtenBy, RecordDemand3}
 use Rattle.record.proofs.Answers.{evaluation-passed}
 use Rattle.record.proofs.Recorded.{recorded-stated}
 
@@ -108,15 +110,12 @@ module _ (program trace : List ℕ) (n : ℕ) (label : List ℕ) (T out : List �
 
   -- ---- The record
 
-  pub fillable : {v : Verdict} → AreBytes program → length label ≡ labelBytes
-      → writeCheck program trace n label (length T) (length out) ≡ Passed → workedOut program trace n ≡ v
-      → length (recordOf program trace n label) ≤ length out → Fillable program trace n label v out
-  unfolding recorded recordOf
-  fillable are l e w h =
-      let s = recorded-stated program trace n label (length T) (length out) are l e in
-      record {
-        short = s .program .1 .short;
-        few = s .few;
-        verdict = rw (← w) (s .verdict);
-        room = rw (← w) h;
-      }
+  module _ {v : Verdict} (are : AreBytes program) (l : length label ≡ labelBytes)
+      (e : writeCheck program trace n label (length T) (length out) ≡ Passed) (w : workedOut program trace n ≡ v) where
+    pub stated : Stated (recorded program trace n label v)
+    stated = rw (← w) (recorded-stated program trace n label (length T) (length out) are l e)
+
+    pub filled-written : {out′ : List ℕ} → length (recordOf program trace n label) ≤ length out
+        → out′ ≡ filled (recorded program trace n label v) out → out′ ≡ begins (layout (recorded program trace n label v)) out
+    unfolding recordOf
+    filled-written h o = o ∙ filled-begins (recorded program trace n label v) out (stated .verdict) (rw (← w) h)

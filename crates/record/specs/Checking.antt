@@ -17,12 +17,13 @@ use Rattle.semantics.specs.Passes.{decidedTable}
 use Rattle.semantics.specs.Demand.{Decides}
 use Rattle.rule.specs.Form.{Accepted}
 use Rattle.rule.specs.Reading.{programOf}
-use Rattle.evaluate.specs.Evaluate.{tableCheck}
+use Rattle.prepare.specs.Checks.{tableCheck}
+use Rattle.layout.specs.Form.{Contents, samplesOf}
+use Rattle.layout.specs.Trailer.{trailerCheck, contentsIn}
 use Rattle.record.specs.declared.Checked.{Checked}
 use Rattle.record.specs.declared.Checked.the-variants as checked
 use Rattle.record.specs.declared.Examined.{Examined}
-use Rattle.record.specs.Form.{Contents, samplesOf}
-use Rattle.record.specs.Reading.{contentsIn, readCheck, reading, trailerCheck}
+use Rattle.record.specs.Reading.{readCheck, reading}
 
 -- the program that a record holds
 abbrev pub programHeld : Contents → Program

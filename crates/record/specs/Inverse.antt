@@ -4,10 +4,11 @@ use mathlib.Core.Logic.{_↔_}
 use mathlib.Core.List.{List, _++_}
 use Prim.Native.Nat.{ℕ}
 use lib.ListN.{take}
-use Rattle.record.specs.declared.Parts.{Parts}
-use Rattle.record.specs.declared.Reading.the-variants as read
-use Rattle.record.specs.Form.{Contents, layout, Stated}
-use Rattle.record.specs.Reading.{contentsAt, reading}
+use Rattle.layout.specs.declared.Parts.{Parts}
+use Rattle.layout.specs.declared.Reading.the-variants as read
+use Rattle.layout.specs.Form.{Contents, layout, Stated}
+use Rattle.layout.specs.Trailer.{contentsAt}
+use Rattle.record.specs.Reading.{reading}
 
 -- bytes that end in a record of these contents are read as those, and the bytes before it are left
 pub record ReadsBack (before : List ℕ) (c : Contents) : Type 0 where

@@ -1,11 +1,9 @@
--- Records, of document 01 ('Record and archive'):
---   Form        what a record holds, and its bytes
+-- Records, of document 01 ('Record and archive'); `layout` has what a record holds, and its bytes:
 --   Reading     what reading answers of any bytes
 --   Recording   what recording answers, writes, and leaves in the table
 --   Checking    what checking answers, and leaves in the table
 --   Inverse     what reading and writing owe each other
 -- Steps, which follows the code, is no part of what a reader must believe.
-pub mod Form
 pub mod Reading
 pub mod Recording
 pub mod Checking

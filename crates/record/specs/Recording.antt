@@ -8,31 +8,21 @@ use Rattle.refusal.specs.declared.Refusal.the-variants.{OutputShort}
 use Rattle.refusal.specs.declared.Check.{Check}
 use Rattle.refusal.specs.declared.Check.the-variants as check
 use Rattle.refusal.specs.{refuseIf, _then_, changedIf, Answer, answered, refusedAs}
-use Rattle.trace.specs.{samples, pack}
+use Rattle.trace.specs.{samples}
 use Rattle.semantics.specs.declared.Verdict.{Verdict}
-use Rattle.semantics.specs.Verdicts.{verdictOf, verdictNumber, verdictValues}
+use Rattle.semantics.specs.Verdicts.{verdictOf, verdictValues}
 use Rattle.rule.specs.Reading.{programOf}
-use Rattle.evaluate.specs.Evaluate.{evaluateCheck, tableEvaluated, Demand3}
+use Rattle.prepare.specs.Checks.{evaluateCheck}
+use Rattle.evaluate.specs.Evaluate.{tableEvaluated, Demand3}
 use Rattle.encoding.specs.{begins}
+use Rattle.layout.specs.Form.{layout}
+use Rattle.layout.specs.Filling.{recorded}
 use Rattle.record.specs.declared.Written.{Written}
 use Rattle.record.specs.declared.Written.the-variants as written
-use Rattle.record.specs.Form.{Contents, layout}
 
 -- 'works the verdict out itself from program, trace and label, and is never handed one'
 abbrev pub workedOut : List ℕ → List ℕ → ℕ → Verdict
 workedOut program trace n = verdictOf (programOf program) (samples trace n)
-
--- what is recorded with a verdict; bits above the last sample are written 0
-unfoldable pub recorded : List ℕ → List ℕ → ℕ → List ℕ → Verdict → Contents
-recorded program trace n label v =
-    record {
-      program = program;
-      trace = pack (samples trace n);
-      n = n;
-      label = label;
-      verdict = verdictNumber (v .decision);
-      passes = v .passes;
-    }
 
 -- the record's bytes
 unfoldable pub recordOf : List ℕ → List ℕ → ℕ → List ℕ → List ℕ

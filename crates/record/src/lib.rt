@@ -1,10 +1,9 @@
 // Records: the program, the trace, the site label, the verdict and the pass count in one string of bytes
 // that is read from its last byte backwards. Every operation answers for all bytes and numbers; a refusal
 // changes nothing that is lent.
-mod fill;
-mod trailer;
-
 use evaluate::Evaluated;
+use layout::Parts;
+use layout::Reading;
 use refusal::Check;
 use refusal::Refusal;
 use semantics::Verdict;
@@ -14,50 +13,12 @@ ghost use lib.ListN.{length};
 ghost use Rattle.refusal.specs.{answerIf};
 ghost use Rattle.semantics.specs.Verdicts.{verdictValues};
 ghost use Rattle.rule.specs.Reading.{programCheck};
+ghost use Rattle.layout.specs.Trailer.{partsIn};
 ghost use Rattle.record.specs.declared.Written.the-variants as Written;
-ghost use Rattle.record.specs.Reading.{partOf, partsIn, readCheck, reading, partsValues, readAnswer};
+ghost use Rattle.record.specs.Reading.{readCheck, reading, partsValues, readAnswer};
 ghost use Rattle.record.specs.Recording.{workedOut, recordOf, writeCheck, writing, writtenAnswer, outputWritten, tableWritten, RecordDemand3};
 ghost use Rattle.record.specs.Checking.{checking, checkedAnswer, checkNumbers, tableChecked, CheckDemand3, comparedIn, examining, agrees, compared};
 ghost use Rattle.record.specs.Steps.{bothRefused, refusedBy};
-
-// The format and the mark of a record.
-pub const FORMAT: u8 = 1;
-
-pub const MARK: u8 = 0x52;
-
-// The bytes of a site label, of the trailer, and of what stands between the trace and the trailer: the
-// label, the verdict byte and the pass count.
-pub const LABEL: usize = 8;
-
-pub const TRAILER: usize = 8;
-
-pub const AFTER_TRACE: usize = 13;
-
-// The highest number of a verdict.
-pub const MOST_VERDICT: u8 = 4;
-
-// A part of the caller's bytes.
-pub struct Span {
-    pub start: usize,
-    pub length: usize,
-}
-
-// The parts of a record: where they stand in the caller's bytes, and the numbers stored. The bytes before
-// the record are those before its program.
-pub struct Parts {
-    pub program: Span,
-    pub trace: Span,
-    pub n: u16,
-    pub label: Span,
-    pub verdict: u8,
-    pub passes: u32,
-}
-
-// What reading answers.
-pub enum Reading {
-    Record(Parts),
-    Refused(Refusal),
-}
 
 // What recording answers: the record's length and the verdict that went into it, or the refusal.
 pub enum Written {
@@ -94,7 +55,7 @@ pub fn write(
     ensures cells { λ _. ⌜ now (table .exit) ≡ tableWritten (now (program .entry)) (now (trace .entry)) n label (now (table .entry)) (length (now (out .entry))) ⌝ }
     ensures decides { λ r. ⌜ RecordDemand3 (now (program .entry)) (now (trace .entry)) n label (length (now (table .entry))) (length (now (out .entry))) (λ v. r ≡ Written.Record (length (recordOf (now (program .entry)) (now (trace .entry)) n label)) v) (now (table .exit)) ⌝ }
 {
-    let size = program.len() + trace::bytes_for(n) + AFTER_TRACE + TRAILER;
+    let size = program.len() + trace::bytes_for(n) + layout::AFTER_TRACE + layout::TRAILER;
     if out.len() < size {
         return match evaluate::check(program, trace, n, table.len()) {
             Check::Refused(refusal) => Written::Refused(refusal),
@@ -104,7 +65,7 @@ pub fn write(
     match evaluate::evaluate(program, trace, n, table) {
         Evaluated::Refused(refusal) => Written::Refused(refusal),
         Evaluated::Verdict(verdict) => {
-            fill::fill(program, trace, n as u16, label, verdict, out);
+            layout::fill(program, trace, n as u16, label, verdict, out);
             Written::Record(size, verdict)
         }
     }
@@ -115,11 +76,11 @@ pub fn read(bytes: &[u8]) -> Reading
     ensures answer { λ r. ⌜ r ≡ reading (now (bytes .entry)) ⌝ }
     ensures numbers { λ r. ⌜ readAnswer r ≡ answerIf (readCheck (now (bytes .entry))) (partsValues (partsIn (now (bytes .entry)))) ⌝ }
 {
-    match trailer::parts(bytes) {
+    match layout::locate(bytes) {
         Reading::Refused(refusal) => Reading::Refused(refusal),
         Reading::Record(parts) => {
             let program = parts.program;
-            let checked = rule::check_program(part(bytes, program));
+            let checked = rule::check_program(layout::part(bytes, program));
             let check = checked.check;
             match check {
                 Check::Refused(refusal) => Reading::Refused(refusal),
@@ -127,23 +88,6 @@ pub fn read(bytes: &[u8]) -> Reading
             }
         }
     }
-}
-
-// A part of the bytes, as far as they go.
-pub fn part(bytes: &[u8], span: Span) -> &[u8]
-    ensures { λ r. ⌜ now r ≡ partOf (now (bytes .entry)) span ⌝ }
-{
-    let len = bytes.len();
-    let start = span.start;
-    let length = span.length;
-    if len < start {
-        return &bytes[len..];
-    }
-    if len - start < length {
-        return &bytes[start..];
-    }
-    let end = start + length;
-    &bytes[start..end]
 }
 
 // Checks the record that the bytes end in: works verdict and passes out again over the lent table.
@@ -163,14 +107,14 @@ pub fn examine(bytes: &[u8], table: &mut [u16]) -> Examined
     ensures cells { λ _. ⌜ now (table .exit) ≡ tableChecked (now (bytes .entry)) (now (table .entry)) ⌝ }
     ensures decides { λ r. ⌜ CheckDemand3 (now (bytes .entry)) (length (now (table .entry))) (λ v. r .checked ≡ comparedIn (now (bytes .entry)) v) (now (table .exit)) ⌝ }
 {
-    match trailer::parts(bytes) {
+    match layout::locate(bytes) {
         Reading::Refused(refusal) => refused(refusal),
         Reading::Record(parts) => {
             let program = parts.program;
             let trace = parts.trace;
             match evaluate::evaluate(
-                part(bytes, program),
-                part(bytes, trace),
+                layout::part(bytes, program),
+                layout::part(bytes, trace),
                 parts.n as usize,
                 table,
             ) {
@@ -178,7 +122,11 @@ pub fn examine(bytes: &[u8], table: &mut [u16]) -> Examined
                     reading: Reading::Record(parts),
                     checked: compare(parts, verdict),
                 },
-                Evaluated::Refused(refusal) => refused_by(part(bytes, program), parts, refusal),
+                Evaluated::Refused(refusal) => refused_by(
+                    layout::part(bytes, program),
+                    parts,
+                    refusal,
+                ),
             }
         }
     }

@@ -18,8 +18,8 @@ use Rattle.refusal.specs.declared.Check.the-variants as check
 use Rattle.refusal.specs.{_then_}
 use Rattle.trace.specs.{bitOf}
 use Rattle.semantics.specs.Language.{Kind, truth, list, Expr, Function, Program}
-use Rattle.rule.specs.declared.Header.{Header}
-use Rattle.rule.specs.Form.{mostDepth, mostBytes}
+use Rattle.syntax.specs.declared.Header.{Header}
+use Rattle.syntax.specs.Limits.{mostDepth, mostBytes}
 use Rattle.rule.specs.Reading.{Parsed, got, refused, onward, kindAt, kindsFrom, paramKinds, resultKind, Raw, exprFrom, wholeBody, functionFrom, functionsFrom, mainKinds, checkFrom}
 use Rattle.rule.specs.Walk.{Frame, firstStop, checkAt, bodyEnd, bodyAt, bodiesAt, mainBits}
 use Rattle.rule.proofs.Walking.{stop-above, stop-back}

@@ -16,7 +16,7 @@ use Rattle.refusal.specs.declared.Check.{Check}
 use Rattle.refusal.specs.declared.Check.the-variants as check
 use Rattle.refusal.specs.{checkOf, _then_}
 use Rattle.trace.specs.{bitOf}
-use Rattle.rule.specs.Form.{mostDepth}
+use Rattle.syntax.specs.Limits.{mostDepth}
 use Rattle.rule.specs.Walk.{Frame, firstStop, checkAt, bodyEnd, bodyAt, bodiesAt}
 
 module _ (F : Frame) {list : Bool} (k : list ≡ bitOf 4 (F .ownKinds)) {w : ℕ} (e : w ≡ checkAt F mostDepth list 0) where

@@ -6,7 +6,8 @@ use Prim.Native.Nat.{ℕ, _-_, _≤_}
 use native.Mathlib.Nat.{zero-add}
 use lib.ListN.{length, getD, drop, length-drop}
 use Rattle.semantics.specs.Language.{Program}
-use Rattle.rule.specs.Form.{mostFunctions, mostBytes, padded}
+use Rattle.syntax.specs.Limits.{mostFunctions, mostBytes}
+use Rattle.rule.specs.Form.{padded}
 use Rattle.rule.specs.Reading.{got, Raw, rawsFrom, functionsFrom, headers, mainFirst, checkFrom}
 use Rattle.rule.specs.Outline.{outlineOf}
 use Rattle.rule.specs.Walk.{bodiesAt, Placed, mainBits, rawOutline}

@@ -11,11 +11,13 @@ use Prim.Native.Nat.{ℕ, zero, suc, _+_, _<_, _≤_}
 use native.Mathlib.Omega.{arith}
 use lib.ListN.{length, getElem?}
 use Rattle.semantics.specs.Language.{Kind, truth, list, Op, hd, tl, null, Expr, constant, empty, param, op, ifte, call, Args, noArgs, arg, Function, Program, opKind, Meets, MeetAll}
-use Rattle.rule.specs.declared.Node.{Node}
-use Rattle.rule.specs.declared.Node.the-variants as node
-use Rattle.rule.specs.declared.Header.{Header}
-use Rattle.rule.specs.Form.{mostFunctions, mostParams, opByte, encodeExpr, encodeArgs, depth, depthAll}
-use Rattle.rule.specs.Reading.{Parsed, got, onward, nodeOf, paramKinds, resultKind, demanded, argsFrom, paramFrom, callFrom, opFrom, ifFrom, nodeFrom, exprFrom}
+use Rattle.syntax.specs.declared.Node.{Node}
+use Rattle.syntax.specs.declared.Node.the-variants as node
+use Rattle.syntax.specs.declared.Header.{Header}
+use Rattle.syntax.specs.Limits.{mostFunctions, mostParams}
+use Rattle.rule.specs.Form.{opByte, encodeExpr, encodeArgs, depth, depthAll}
+use Rattle.syntax.specs.Bytes.{nodeOf}
+use Rattle.rule.specs.Reading.{Parsed, got, onward, paramKinds, resultKind, demanded, argsFrom, paramFrom, callFrom, opFrom, ifFrom, nodeFrom, exprFrom}
 use Rattle.rule.proofs.NodeBytes.{ByteOf, node-false, node-true, node-empty, node-if, node-op, node-param, node-call, node-inv}
 use Rattle.rule.proofs.Parsing.{not-got, got-inv, demanded-inv, demanded-met, Onward, by, onward-inv}
 

@@ -6,7 +6,7 @@ use Prim.Native.Nat.{ℕ, _+_, _-_, _≤_}
 use native.Mathlib.Omega.{arith}
 use lib.ListN.{length, getD, take, drop, set, length-set}
 use lib.Seq.{paste, length-paste, take-paste, take-length, take-at, drop-at, take-set-le, drop-set-add, getD-set-same, getD-set-other}
-use Rattle.rule.specs.Form.{mostFunctions}
+use Rattle.syntax.specs.Limits.{mostFunctions}
 use Rattle.rule.specs.Walk.{frame, kindsPlace, functionsPlace, ownParamsPlace, ownKindsPlace, headsLength, frameIn}
 
 -- the counts, then the kinds bytes

@@ -18,11 +18,13 @@ use Rattle.refusal.specs.declared.Refusal.{Refusal}
 use Rattle.encoding.specs.{lowFirst, fromLow}
 use Rattle.encoding.proofs.Low.{from-low, low-from}
 use Rattle.semantics.specs.Language.{Expr, constant, empty, param, op, ifte, call, Function, Program, Meets, WellKinded}
-use Rattle.rule.specs.declared.Header.{Header}
-use Rattle.rule.specs.declared.HeaderRead.{HeaderRead}
-use Rattle.rule.specs.declared.HeaderRead.the-variants.{Found, Refused}
-use Rattle.rule.specs.Form.{AreBytes, mostFunctions, mostBody, mostDepth, encodeExpr, depth, kindsByte, encodeFunction, encodeFunctions, Fits}
-use Rattle.rule.specs.Reading.{Parsed, got, refused, onward, kindsFault, lengthFault, headerOf, paramKinds, resultKind, Raw, rawFrom, rawsFrom, exprFrom, wholeBody, functionFrom, functionsFrom, headers}
+use Rattle.syntax.specs.declared.Header.{Header}
+use Rattle.syntax.specs.declared.HeaderRead.{HeaderRead}
+use Rattle.syntax.specs.declared.HeaderRead.the-variants.{Found, Refused}
+use Rattle.syntax.specs.Limits.{mostFunctions, mostBody, mostDepth}
+use Rattle.rule.specs.Form.{AreBytes, encodeExpr, depth, kindsByte, encodeFunction, encodeFunctions, Fits}
+use Rattle.syntax.specs.Bytes.{kindsFault, lengthFault, headerOf}
+use Rattle.rule.specs.Reading.{Parsed, got, refused, onward, paramKinds, resultKind, Raw, rawFrom, rawsFrom, exprFrom, wholeBody, functionFrom, functionsFrom, headers}
 use Rattle.rule.proofs.Tests.{neither}
 use Rattle.rule.proofs.KindBytes.{kinds-back, kinds-sound, kinds-few, kinds-again, length-kinds}
 use Rattle.rule.proofs.Parsing.{not-got, got-inv, Onward, by, onward-inv}

@@ -18,8 +18,10 @@ use borrow.Author.Tests.{le-ltb, lt-leb, ltb-false, leb-false}
 use Rattle.trace.specs.{bitOf, digit, binary}
 use Rattle.trace.proofs.Bits.{bit-binary, binary-bound, binary-snoc}
 use Rattle.semantics.specs.Language.{Kind, truth, list, isList}
-use Rattle.rule.specs.Form.{mostParams, padded, kindsByte}
-use Rattle.rule.specs.Reading.{kindsFault, kindAt, kindsFrom}
+use Rattle.syntax.specs.Limits.{mostParams}
+use Rattle.rule.specs.Form.{padded, kindsByte}
+use Rattle.syntax.specs.Bytes.{kindsFault}
+use Rattle.rule.specs.Reading.{kindAt, kindsFrom}
 use Rattle.rule.proofs.Tests.{neither}
 use Rattle.rule.proofs.Padded.{length-padded}
 

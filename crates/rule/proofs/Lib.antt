@@ -8,7 +8,6 @@ pub mod FunctionBytes
 pub mod Programs
 pub mod Places
 pub mod Walking
-pub mod HeaderWays
 pub mod Copying
 pub mod FrameWays
 pub mod BodyWays

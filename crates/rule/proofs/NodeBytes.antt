@@ -10,10 +10,10 @@ use native.Mathlib.Omega.{arith}
 use lib.Dec.{leb, eqb}
 use borrow.Author.Tests.{eqb-true, leb-true, ne-eqb, le-leb, lt-leb}
 use Rattle.semantics.specs.Language.{Op, hd, tl, null}
-use Rattle.rule.specs.declared.Node.{Node}
-use Rattle.rule.specs.declared.Node.the-variants as node
+use Rattle.syntax.specs.declared.Node.{Node}
+use Rattle.syntax.specs.declared.Node.the-variants as node
 use Rattle.rule.specs.Form.{opByte}
-use Rattle.rule.specs.Reading.{nodeOf}
+use Rattle.syntax.specs.Bytes.{nodeOf}
 use Rattle.rule.proofs.Tests.{both}
 
 -- ---- From the byte to the node

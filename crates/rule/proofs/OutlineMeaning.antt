@@ -16,15 +16,17 @@ use native.Mathlib.Omega.{arith}
 use lib.ListN.{length, getElem?, getD, take, drop, length-drop, length-map}
 use lib.Seq.{drop-drop, length-take-le}
 use Rattle.semantics.specs.Language.{Expr, Function, Program}
-use Rattle.rule.specs.declared.Header.{Header}
-use Rattle.rule.specs.declared.HeaderRead.{HeaderRead}
-use Rattle.rule.specs.declared.HeaderRead.the-variants.{Found, Refused}
-use Rattle.rule.specs.Form.{mostFunctions, mostParams, mostDepth, mostBytes, encodeExpr, padded, kindsByte}
-use Rattle.rule.specs.Reading.{Parsed, got, refused, onward, kindsFault, paramKinds, resultKind, headerOf, Raw, rawFrom, rawsFrom, exprFrom, wholeBody, functionFrom, functionsFrom, headers}
+use Rattle.syntax.specs.declared.Header.{Header}
+use Rattle.syntax.specs.declared.HeaderRead.{HeaderRead}
+use Rattle.syntax.specs.declared.HeaderRead.the-variants.{Found, Refused}
+use Rattle.syntax.specs.Limits.{mostFunctions, mostParams, mostDepth, mostBytes}
+use Rattle.rule.specs.Form.{encodeExpr, padded, kindsByte}
+use Rattle.syntax.specs.Bytes.{kindsFault, headerOf}
+use Rattle.rule.specs.Reading.{Parsed, got, refused, onward, paramKinds, resultKind, Raw, rawFrom, rawsFrom, exprFrom, wholeBody, functionFrom, functionsFrom, headers}
 use Rattle.rule.specs.Outline.{startsFrom, endsFrom, outlineOf}
 use Rattle.rule.specs.Walk.{Frame, frameAt, Placed, rawStarts, rawEnds, rawOutline}
 use Rattle.rule.proofs.Padded.{getD-padded}
-use Rattle.rule.proofs.HeaderWays.{header-is, header-fault, header-size}
+use Rattle.syntax.proofs.HeaderWays.{header-is, header-fault, header-size}
 use Rattle.rule.proofs.Scanning.{endOf, size-fits}
 use Rattle.rule.proofs.Parsing.{not-got, got-inv, Onward, by, onward-inv}
 use Rattle.rule.proofs.Expressions.{Heads, no-heads, one-head, place-below, expr-written}

@@ -13,7 +13,7 @@ use Rattle.refusal.specs.declared.Refusal.the-variants.{ProgramLength, Function
 use Rattle.refusal.specs.declared.Check.the-variants as check
 use Rattle.semantics.specs.Language.{Program}
 use Rattle.rule.specs.declared.Judged.{Judged}
-use Rattle.rule.specs.Form.{mostFunctions, mostBytes}
+use Rattle.syntax.specs.Limits.{mostFunctions, mostBytes}
 use Rattle.rule.specs.Reading.{Parsed, refused, onward, rawsFrom, bodiesFrom, programFrom, programCheck}
 use Rattle.rule.specs.Outline.{outlineOf, outlineFrom, judgedFrom}
 

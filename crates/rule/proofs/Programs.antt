@@ -15,8 +15,9 @@ use borrow.Author.Tests.{ne-eqb, le-ltb, eqb-true, eqb-false, ltb-false, not-fal
 use Rattle.refusal.specs.declared.Check.the-variants.{Passed}
 use Rattle.refusal.proofs.Numbers.{refused}
 use Rattle.semantics.specs.Language.{Kind, truth, list, Function, Program, IsMain}
-use Rattle.rule.specs.declared.Header.{Header}
-use Rattle.rule.specs.Form.{AreBytes, mostFunctions, mostBytes, encode, encodeFunctions, Accepted}
+use Rattle.syntax.specs.declared.Header.{Header}
+use Rattle.syntax.specs.Limits.{mostFunctions, mostBytes}
+use Rattle.rule.specs.Form.{AreBytes, encode, encodeFunctions, Accepted}
 use Rattle.rule.specs.Reading as reading
 use Rattle.rule.specs.Reading.{Parsed, got, paramKinds, resultKind, Raw, rawsFrom, mainKinds, mainFirst, headers, bodiesFrom, programFrom, checkFrom, programCheck}
 use Rattle.rule.proofs.Tests.{neither}

@@ -13,16 +13,18 @@ use lib.Seq.{drop-drop}
 use borrow.Author.Tests.{ltb-false}
 use Rattle.refusal.specs.declared.Refusal.{Refusal}
 use Rattle.refusal.specs.declared.Check.the-variants as check
-use Rattle.rule.specs.declared.Header.{Header}
-use Rattle.rule.specs.declared.HeaderRead.the-variants.{Found, Refused}
+use Rattle.syntax.specs.declared.Header.{Header}
+use Rattle.syntax.specs.declared.HeaderRead.the-variants.{Found, Refused}
 use Rattle.rule.specs.declared.Outline.{Outline}
 use Rattle.rule.specs.declared.functions.Scan.{Scan}
-use Rattle.rule.specs.Form.{mostFunctions, mostBody, padded}
-use Rattle.rule.specs.Reading.{Parsed, got, refused, onward, lengthFault, headerOf, Raw, rawsFrom}
+use Rattle.syntax.specs.Limits.{mostFunctions, mostBody}
+use Rattle.rule.specs.Form.{padded}
+use Rattle.syntax.specs.Bytes.{lengthFault, headerOf}
+use Rattle.rule.specs.Reading.{Parsed, got, refused, onward, Raw, rawsFrom}
 use Rattle.rule.specs.Outline.{outlineOf}
 use Rattle.rule.specs.Walk.{rawStarts, rawEnds, rawOutline, scanFrom}
 use Rattle.rule.proofs.Padded.{set-padded}
-use Rattle.rule.proofs.HeaderWays.{header-is, header-size}
+use Rattle.syntax.proofs.HeaderWays.{header-is, header-size}
 
 -- the place after some functions
 unfoldable pub endOf : ℕ → List Raw → ℕ

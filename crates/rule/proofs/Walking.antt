@@ -22,9 +22,9 @@ use Rattle.refusal.specs.declared.Check.the-variants as check
 use Rattle.refusal.specs.{numberOf, checkOf}
 use Rattle.refusal.proofs.Numbers.{refusal-back}
 use Rattle.trace.specs.{bitOf}
-use Rattle.rule.specs.declared.Node.{Node}
-use Rattle.rule.specs.Form.{mostFunctions, mostBytes}
-use Rattle.rule.specs.Reading.{nodeOf}
+use Rattle.syntax.specs.declared.Node.{Node}
+use Rattle.syntax.specs.Limits.{mostFunctions, mostBytes}
+use Rattle.syntax.specs.Bytes.{nodeOf}
 use Rattle.rule.specs.Walk.{Frame, kindsPlace, same, atMostFour, firstStop, stop, ended, leafWalked, paramWalked, argsWalked, nodeWalked, checkAt, unaryAt, callWalkedAt}
 
 pub stop-above : (f : Refusal) → firstStop ≤ stop f

@@ -1,4 +1,4 @@
--- 'Program bytes' of document 01: the limits, the bytes of a program, which bytes are accepted.
+-- 'Program bytes' of document 01: the bytes of a program, which bytes are accepted.
 use Prim.Native.Nat.{ℕ, suc, _+_, _-_, _<_, _≤_, max}
 use mathlib.Core.Path.{_≡_}
 use mathlib.Core.Bool.{Bool, true, false}
@@ -7,28 +7,12 @@ use mathlib.Core.Option.{some}
 use lib.ListN.{length, getElem?, getD, replicate}
 use Rattle.trace.specs.{binary}
 use Rattle.encoding.specs.{lowFirst}
+use Rattle.syntax.specs.Limits.{mostFunctions, mostParams, mostBody, mostDepth, mostBytes}
 use Rattle.semantics.specs.Language.{Kind, truth, list, isList, Op, hd, tl, null, Expr, constant, empty, param, op, ifte, call, Args, noArgs, arg, Function, Program, IsMain, WellKinded}
 
 -- a list of bytes
 abbrev pub AreBytes : List ℕ → Type 0
 AreBytes bytes = (i : ℕ) → getD bytes i 0 < 256
-
--- ---- Limits
-
-abbrev pub mostFunctions : ℕ
-mostFunctions = 32
-
-abbrev pub mostParams : ℕ
-mostParams = 4
-
-abbrev pub mostBody : ℕ
-mostBody = 1024
-
-abbrev pub mostDepth : ℕ
-mostDepth = 64
-
-abbrev pub mostBytes : ℕ
-mostBytes = 4096
 
 -- ---- The bytes of a program
 

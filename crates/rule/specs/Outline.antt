@@ -5,7 +5,8 @@ use lib.ListN.{length}
 use Rattle.semantics.specs.Language.{Function, Program}
 use Rattle.rule.specs.declared.Outline.{Outline}
 use Rattle.rule.specs.declared.Judged.{Judged}
-use Rattle.rule.specs.Form.{mostFunctions, encodeExpr, padded, kindsByte}
+use Rattle.syntax.specs.Limits.{mostFunctions}
+use Rattle.rule.specs.Form.{encodeExpr, padded, kindsByte}
 use Rattle.rule.specs.Reading.{Parsed, got, refused, checkFrom}
 
 -- the place of each body's first byte; the first header stands at `at`

@@ -1,25 +1,25 @@
 -- 'What is refused', 5 to 17, of document 01: any bytes are read as a program, or refused by the first number
 -- that applies. 'In 7 to 9 the first function at fault decides; in 12 to 17 the first function, and in it the
 -- first byte'; at one byte the lowest number.
-use Prim.Native.Nat.{ℕ, zero, suc, _-_, _%_, _^_}
+use Prim.Native.Nat.{ℕ, zero, suc}
 use mathlib.Core.Bool.{Bool, true, false, not, _&&_, _||_, cond}
 use mathlib.Core.List.{List, [], _∷_, map}
 use mathlib.Core.Option.{Option, none, some}
 use lib.ListN.{length, getElem?, getD, take, drop}
 use lib.Dec.{ltb, leb, eqb}
 use Rattle.refusal.specs.declared.Refusal.{Refusal}
-use Rattle.refusal.specs.declared.Refusal.the-variants.{ProgramLength, FunctionCount, HeaderCut, ParameterKinds, BodyLength, BytesAfterFunctions, MainKind, BodyEnds, TooDeep, ListConstructor, UnknownByte, WrongKind, BytesAfterExpression}
+use Rattle.refusal.specs.declared.Refusal.the-variants.{ProgramLength, FunctionCount, BytesAfterFunctions, MainKind, BodyEnds, TooDeep, ListConstructor, UnknownByte, WrongKind, BytesAfterExpression}
 use Rattle.refusal.specs.declared.Check.{Check}
 use Rattle.refusal.specs.declared.Check.the-variants as check
 use Rattle.trace.specs.{bitOf}
-use Rattle.encoding.specs.{fromLow}
 use Rattle.semantics.specs.Language.{Kind, truth, list, Op, hd, tl, null, Expr, constant, empty, param, op, ifte, call, Args, noArgs, arg, Function, Program, opKind}
-use Rattle.rule.specs.declared.Node.{Node}
-use Rattle.rule.specs.declared.Node.the-variants as node
-use Rattle.rule.specs.declared.Header.{Header}
-use Rattle.rule.specs.declared.HeaderRead.{HeaderRead}
-use Rattle.rule.specs.declared.HeaderRead.the-variants.{Found, Refused}
-use Rattle.rule.specs.Form.{mostFunctions, mostParams, mostBody, mostDepth, mostBytes}
+use Rattle.syntax.specs.declared.Node.{Node}
+use Rattle.syntax.specs.declared.Node.the-variants as node
+use Rattle.syntax.specs.declared.Header.{Header}
+use Rattle.syntax.specs.declared.HeaderRead.{HeaderRead}
+use Rattle.syntax.specs.declared.HeaderRead.the-variants.{Found, Refused}
+use Rattle.syntax.specs.Limits.{mostFunctions, mostDepth, mostBytes}
+use Rattle.syntax.specs.Bytes.{headerOf, nodeOf}
 
 -- what was read and the bytes after it, or the refusal
 pub data Parsed (A : Type 0) : Type 0 where
@@ -36,27 +36,7 @@ abbrev pub unlessFault : {A : Type 0} → Bool → Refusal → Parsed A → Pars
 unlessFault true f p = refused f
 unlessFault false f p = p
 
--- ---- Headers: 7 to 9
-
--- 8: 'the parameter count is above 4, or a kind bit is set for an absent parameter or among bits 5 to 7'
-abbrev pub kindsFault : ℕ → ℕ → Bool
-kindsFault params kinds = ltb mostParams params || (leb (2 ^ params) (kinds % 16) || leb 32 kinds)
-
--- 9: 'the body length is 0, above 1,024 or above what remains'
-abbrev pub lengthFault : ℕ → ℕ → Bool
-lengthFault size remains = eqb size 0 || (ltb mostBody size || ltb remains size)
-
--- 'body length, 16 bits, low byte first'
-abbrev pub bodyLength : List ℕ → ℕ
-bodyLength bs = fromLow (getD bs 2 0 ∷ getD bs 3 0 ∷ [])
-
--- the header at the front of some bytes; 7: 'fewer than four bytes remain for a header'
-unfoldable pub headerOf : List ℕ → HeaderRead
-headerOf bs =
-    cond (ltb (length bs) 4) (Refused HeaderCut)
-    (cond (kindsFault (getD bs 0 0) (getD bs 1 0)) (Refused ParameterKinds)
-    (cond (lengthFault (bodyLength bs) (length bs - 4)) (Refused BodyLength)
-    (Found (record { params = getD bs 0 0; kinds = getD bs 1 0; length = bodyLength bs }))))
+-- ---- Headers; their refusals, 7 to 9, are those of `headerOf`
 
 -- the kind that bit i of a kinds byte says
 abbrev pub kindAt : ℕ → ℕ → Kind
@@ -88,20 +68,6 @@ rawsFrom zero bs = got [] bs
 rawsFrom (suc n) bs = onward (rawFrom (headerOf bs) bs) (λ x rest. onward (rawsFrom n rest) (λ xs rest′. got (x ∷ xs) rest′))
 
 -- ---- Expressions: 12 to 16
-
--- the table of expression bytes
-unfoldable pub nodeOf : ℕ → Node
-nodeOf b =
-    cond (eqb b 0x00) node.False
-    (cond (eqb b 0x01) node.True
-    (cond (eqb b 0x02) node.Empty
-    (cond (leb 0x10 b && leb b 0x13) (node.Param (b - 0x10))
-    (cond (eqb b 0x20) node.Head
-    (cond (eqb b 0x21) node.Tail
-    (cond (eqb b 0x22) node.Null
-    (cond (eqb b 0x23) node.If
-    (cond (eqb b 0x24) node.Cons
-    (cond (leb 0x80 b && leb b 0x9F) (node.Call (b - 0x80)) node.Unknown)))))))))
 
 abbrev pub sameKind : Kind → Kind → Bool
 sameKind truth truth = true

@@ -12,12 +12,14 @@ use Rattle.refusal.specs.declared.Check.{Check}
 use Rattle.refusal.specs.declared.Check.the-variants as check
 use Rattle.refusal.specs.{numberOf, checkOf, _then_}
 use Rattle.trace.specs.{bitOf}
-use Rattle.rule.specs.declared.Node.{Node}
-use Rattle.rule.specs.declared.Node.the-variants as node
+use Rattle.syntax.specs.declared.Node.{Node}
+use Rattle.syntax.specs.declared.Node.the-variants as node
 use Rattle.rule.specs.declared.Outline.{Outline}
 use Rattle.rule.specs.declared.functions.Scan.{Scan}
-use Rattle.rule.specs.Form.{mostFunctions, mostParams, mostDepth, mostBytes, padded}
-use Rattle.rule.specs.Reading.{Parsed, got, refused, Raw, nodeOf}
+use Rattle.syntax.specs.Limits.{mostFunctions, mostParams, mostDepth, mostBytes}
+use Rattle.rule.specs.Form.{padded}
+use Rattle.syntax.specs.Bytes.{nodeOf}
+use Rattle.rule.specs.Reading.{Parsed, got, refused, Raw}
 use Rattle.rule.specs.Outline.{outlineOf}
 
 abbrev pub same : Bool → Bool → Bool

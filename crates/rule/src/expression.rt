@@ -1,9 +1,9 @@
 // Expressions, 12 to 16 of the list: the remaining depth falls at each node. A walk comes to one number,
 // a place of the body or a refusal, and body and headers go from call to call as one word each: this
 // recursion is what checking a program costs.
-use crate::Node;
-use crate::nodes::node_of;
 use refusal::Refusal;
+use syntax::Node;
+use syntax::node_of;
 ghost use mathlib.Core.Path.{_≡_};
 ghost use Prim.Native.Nat.{_<_, _≤_};
 ghost use Rattle.rule.specs.Walk.{same, leafWalked, paramWalked, atMostFour, frameIn, Sized, stop, ended, checkAt, unaryAt, armsAt, callWalkedAt};

@@ -1,13 +1,12 @@
 // A program's functions: the headers one after the other, main's kind, then the bodies; 7 to 11 and 17
 // of the list.
-use crate::HeaderRead;
 use crate::Judged;
 use crate::Outline;
 use crate::expression;
 use crate::expression::HEADS;
-use crate::headers;
 use refusal::Check;
 use refusal::Refusal;
+use syntax::HeaderRead;
 ghost use mathlib.Core.Path.{_≡_};
 ghost use Prim.Native.Nat.{ℕ, _+_, _≤_};
 ghost use mathlib.Core.List.{List, []};
@@ -93,7 +92,7 @@ fn scan_headers(program: &[u8], count: u8) -> Scan
     let mut at: usize = 1;
     let mut i: usize = 0;
     while i < n {
-        match headers::header_at(program, at) {
+        match syntax::header_at(program, at) {
             HeaderRead::Refused(refusal) => {
                 return Scan {
                     check: Check::Refused(refusal),
@@ -209,7 +208,7 @@ fn check_body(body: &[u8], heads: &[u8; HEADS]) -> Check
 {
     let signature = expression::wide(heads[expression::OWN_KINDS]);
     let list = trace::bit(signature, 4);
-    let end = expression::check(&body, heads, list, crate::MOST_DEPTH, 0);
+    let end = expression::check(&body, heads, list, syntax::MOST_DEPTH, 0);
     if expression::STOPS <= end {
         return refusal::numbered(end - expression::STOPS);
     }

@@ -4,7 +4,7 @@ use mathlib.Core.List.{List, [], _∷_}
 use Prim.Native.Nat.{ℕ}
 use native.Mathlib.Omega.{arith}
 use lib.ListN.{length}
-use Rattle.record.specs.declared.Reading.{Reading}
+use Rattle.layout.specs.declared.Reading.{Reading}
 use Rattle.record.specs.Reading.{reading}
 use Rattle.archive.specs.declared.Step.the-variants as step
 use Rattle.archive.specs.Walk.{stepBy, stepIn}

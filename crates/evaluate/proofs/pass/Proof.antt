@@ -1,7 +1,7 @@
 -- `pass` meets its contract: a refusal, or one pass of a settled evaluation.
 use native.Mathlib.Omega.{arith}
 use lib.ListN.{length}
-use Rattle.evaluate.specs.Settled.{Settled}
+use Rattle.prepare.specs.Settled.{Settled}
 use Rattle.evaluate.proofs.Evaluating.{pass-refused, pass-passed}
 use borrow.Author.Needs.{needs}
 use Rattle.evaluate.proofs.pass.Statement.{statement}
@@ -12,7 +12,7 @@ settled : (c : tie.After-enum-told) → let start = c .before .before .before .b
     Settled (start .args .program .now) (start .args .trace .now) (start .args .n)
     (c .before .before .before .before .prepare .result .outline) (c .before .before .before .before .prepare .result .cells)
     (length (start .args .table .now))
-settled c = c .before .before .before .before .prepare .ensures .1 (c .enum-told .given .1)
+settled c = c .before .before .before .before .prepare .ensures .1 .0 (c .enum-told .given .1)
 
 prepare-requires : tie.Need-prepare-requires
 prepare-requires c κs = search needs

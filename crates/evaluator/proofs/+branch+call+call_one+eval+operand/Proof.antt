@@ -43,7 +43,7 @@ use lib.ListN.{getD}
 use borrow.Author.Needs.{needs}
 use Rattle.decoding.specs.Words.{calleeOf, placesOf}
 use Rattle.evaluator.specs.{sortBy, evalWord, evalAt, branchAt, callAt, callOneAt}
-use Rattle.evaluator.proofs.EvalWays.{apart-above, eval-deep, eval-sort, eval-other, branch-true, branch-false, branch-other, Along, along-start, along-end, along-stop, along-more, not-below, function-at, param-at, first-param-at, args-count, one-stop, one-found}
+use Rattle.evaluator.proofs.EvalWays.{apart-above, eval-deep, eval-sort, eval-other, branch-true, branch-false, branch-other, Along, along-start, along-end, along-stop, along-more, not-below, function-at, param-at, first-param-at, args-count, one-stop, one-found, next-index-is, lookup-is}
 
 abbrev μ-branch : Measures 5 branch-kinds.ps ℕ
 μ-branch κs a = a .1 .1 .1 .1 .0 * 4 + 1
@@ -277,7 +277,7 @@ call-values-requires-2 : (t : ℕ) → call-lts.Need-values-requires-2 (call-cla
 call-values-requires-2 t c κs = search needs
 
 call-next-index-requires : (t : ℕ) → call-lts.Need-next-index-requires (call-claims t) (call-at t) call.Post call-Inv-loop call-μ-loop
-call-next-index-requires t c κs = (omega (arith, c .values2 .ensures), omega (arith, c .before .if1 .left, c .before .before .values .ensures))
+call-next-index-requires t c κs = search needs
 
 call-add-i : (t : ℕ) → call-lts.Need-add-i (call-claims t) (call-at t) call.Post call-Inv-loop call-μ-loop
 call-add-i t c = omega (arith, c .before .before .before .before .before .before .before .before .before .loop .inv .1 .most, c .before .before .before .before .before .before .before .before .loop-test .taken)
@@ -295,7 +295,7 @@ call-loop-again t c =
       at .loop .inv .0,
       along-more (at .loop .inv .1) (c .before .before .before .before .before .before .before .before .loop-test .taken) (param-at W _ (at .loop .inv .0) (at .loop .i))
           (c .before .before .before .before .before .before .operand .ensures ∙ ap (evalWord _ _ _ _ _) (c .before .before .before .before .before .before .before .at .ensures)) (c .before .before .before .before .digit .ensures)
-          (c .before .values2 .ensures) few (not-below _ _ _ digit (c .before .values2 .ensures) few) (c .next-index .ensures .0) (c .next-index .ensures .1),
+          (c .before .values2 .ensures) few (not-below _ _ _ digit (c .before .values2 .ensures) few) (next-index-is _ _ _ (omega (arith, c .before .values2 .ensures)) (omega (arith, few, c .before .values2 .ensures)) (c .next-index .ensures .0)) (c .next-index .ensures .1),
     )
 
 call-mul-lookup : (t : ℕ) → call-lts.Need-mul-lookup (call-claims t) (call-at t) call.Post call-Inv-loop call-μ-loop
@@ -305,14 +305,14 @@ call-element-copy-out-lookup : (t : ℕ) → call-lts.Need-element-copy-out-look
 call-element-copy-out-lookup t c = omega (arith, c .before .loop .inv .0)
 
 call-lookup-requires : (t : ℕ) → call-lts.Need-lookup-requires (call-claims t) (call-at t) call.Post call-Inv-loop call-μ-loop
-call-lookup-requires t c κs = c .before .before .loop .inv .1 .small
+call-lookup-requires t c κs = search needs
 
 call-returns-2 : (t : ℕ) → call-lts.Need-returns-2 (call-claims t) (call-at t) call.Post call-Inv-loop call-μ-loop
 unfolding callAt
 call-returns-2 t c =
     let at = c .before .before .before in
     let W = at .before .before .before .before .args .words .now in
-    c .lookup .ensures
+    lookup-is _ _ _ (at .loop .inv .1 .small) (c .lookup .ensures)
     ∙ sym (along-end (at .loop .inv .1) (c .before .before .loop-test .left) (function-at W _ (at .loop .inv .0)))
     ∙ args-count _ _ _ _ _ (at .before .before .count .ensures)
 
@@ -363,7 +363,7 @@ call-one-element-copy-out-lookup : (t : ℕ) → call-one-lts.Need-element-copy-
 call-one-element-copy-out-lookup t c = omega (arith, c .before .before .before .before .before .before .callee .ensures)
 
 call-one-lookup-requires : (t : ℕ) → call-one-lts.Need-lookup-requires (call-one-claims t) (call-one-at t) call-one.Post
-call-one-lookup-requires t c κs = omega (arith, c .before .if1 .left, c .before .before .values .ensures)
+call-one-lookup-requires t c κs = search needs
 
 call-one-returns-2 : (t : ℕ) → call-one-lts.Need-returns-2 (call-one-claims t) (call-one-at t) call-one.Post
 unfolding callOneAt
@@ -371,7 +371,7 @@ call-one-returns-2 t c =
     let called = c .before .before .before .before .before .before .before .before in
     let W = called .before .args .words .now in
     let place : 4096 + 8 * called .callee .result ≡ 4096 + 8 * calleeOf (called .before .args .node) = omega (arith, called .callee .ensures) in
-    c .lookup .ensures
+    lookup-is _ _ _ (omega (arith, c .before .before .if1 .left, c .before .before .before .values .ensures)) (c .lookup .ensures)
     ∙ sym (one-found _ _ _ _ _ (first-param-at W _ place)
     (c .before .before .before .before .before .before .operand .ensures ∙ ap (evalWord _ _ _ _ _) (c .before .before .before .before .before .before .before .first .ensures)) (c .before .before .before .before .digit .ensures) (c .before .before .before .values .ensures)
     (c .before .before .if1 .left) (function-at W _ place))

@@ -4,8 +4,8 @@ use borrow.Author.Needs.{needs}
 use Rattle.record.proofs.examine.Statement.{statement}
 use Rattle.record.proofs.examine.Tie as tie
 
-parts-requires : tie.Need-parts-requires
-parts-requires c κs = search needs
+locate-requires : tie.Need-locate-requires
+locate-requires c κs = search needs
 
 enum-known-refusal : tie.Need-enum-known-refusal
 enum-known-refusal c = search needs
@@ -44,7 +44,7 @@ refused-by-requires : tie.Need-refused-by-requires
 refused-by-requires c κs = search needs
 
 returns : tie.Need-returns
-returns c = trailer-refused _ _ (c .before .before .before .before .parts .ensures) (c .before .before .refusal .given .1) (c .refused .ensures)
+returns c = trailer-refused _ _ (c .before .before .before .before .locate .ensures) (c .before .before .refusal .given .1) (c .refused .ensures)
 
 same-length : tie.Need-same-length
 same-length c = search needs
@@ -53,7 +53,7 @@ returns-2 : tie.Need-returns-2
 returns-2 c =
     let ready = c .before .before .before .before .before .before in
     let found = ready .before .before .before .before .before .before .before .before in
-    verdict-promised _ _ _ (found .before .before .parts .ensures) (found .parts2 .given .1)
+    verdict-promised _ _ _ (found .before .before .locate .ensures) (found .parts .given .1)
     (ready .before .before .before .before .part .ensures) (ready .before .before .before .part2 .ensures) (ready .evaluate .ensures .0)
     (ready .evaluate .ensures .1 .1 .0) (c .before .before .verdict .given .1) (c .compare .ensures)
 
@@ -64,7 +64,7 @@ returns-3 : tie.Need-returns-3
 returns-3 c =
     let ready = c .before .before .before .before .before .before .before in
     let found = ready .before .before .before .before .before .before .before .before in
-    refused-promised _ _ _ (found .before .before .parts .ensures) (found .parts2 .given .1)
+    refused-promised _ _ _ (found .before .before .locate .ensures) (found .parts .given .1)
     (ready .before .before .before .before .part .ensures) (ready .before .before .before .part2 .ensures) (ready .evaluate .ensures .0)
     (ready .evaluate .ensures .1 .1 .0) (c .before .before .before .refusal2 .given .1) (c .before .part3 .ensures) (c .refused-by .ensures)
 
@@ -72,7 +72,7 @@ pub examine-spec : {M : Type 1} → statement M
 examine-spec =
     tie.close
     (tie.spec
-    parts-requires
+    locate-requires
     enum-known-refusal
     refused-requires
     enum-known-parts

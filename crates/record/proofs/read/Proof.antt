@@ -5,8 +5,8 @@ use borrow.Author.Needs.{needs}
 use Rattle.record.proofs.read.Statement.{statement}
 use Rattle.record.proofs.read.Tie as tie
 
-parts-requires : tie.Need-parts-requires
-parts-requires c κs = search needs
+locate-requires : tie.Need-locate-requires
+locate-requires c κs = search needs
 
 enum-known-refusal : tie.Need-enum-known-refusal
 enum-known-refusal c = search needs
@@ -27,27 +27,27 @@ enum-told : tie.Need-enum-told
 enum-told c = search needs
 
 returns : tie.Need-returns
-returns c = read-owed _ (located-refused _ (c .before .before .before .parts .ensures) (c .before .refusal .given .1))
+returns c = read-owed _ (located-refused _ (c .before .before .before .locate .ensures) (c .before .refusal .given .1))
 
 returns-2 : tie.Need-returns-2
 returns-2 c =
     let told = c .before .before .before in
-    read-owed _ (program-refused _ (told .before .before .before .before .before .before .parts .ensures)
-    (told .before .before .before .before .parts2 .given .1)
+    read-owed _ (program-refused _ (told .before .before .before .before .before .before .locate .ensures)
+    (told .before .before .before .before .parts .given .1)
     (rw (told .before .part .ensures) at (sym (told .check-program .ensures .0) ∙ c .before .check .given .1)))
 
 returns-3 : tie.Need-returns-3
 returns-3 c =
     let told = c .before .before in
-    read-owed _ (program-passed _ (told .before .before .before .before .before .before .parts .ensures)
-    (told .before .before .before .before .parts2 .given .1)
+    read-owed _ (program-passed _ (told .before .before .before .before .before .before .locate .ensures)
+    (told .before .before .before .before .parts .given .1)
     (rw (told .before .part .ensures) at (sym (told .check-program .ensures .0) ∙ c .enum-told .given .1)))
 
 pub read-spec : {M : Type 1} → statement M
 read-spec =
     tie.close
     (tie.spec
-    parts-requires
+    locate-requires
     enum-known-refusal
     enum-known-parts
     part-requires

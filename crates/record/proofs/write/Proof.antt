@@ -4,14 +4,14 @@ use Prim.Native.Nat.{_+_, _≤_}
 use native.Mathlib.Omega.{arith}
 use lib.ListN.{length}
 use Rattle.refusal.specs.declared.Check.the-variants.{Passed}
-use Rattle.trace.specs.{bytesFor}
+use Rattle.trace.specs.{mostSamples, bytesFor}
 use Rattle.rule.specs.Form.{AreBytes}
-use Rattle.evaluate.specs.Evaluate.{evaluateCheck}
+use Rattle.prepare.specs.Checks.{evaluateCheck}
+use Rattle.layout.specs.Filling.{recorded}
+use Rattle.layout.proofs.Filling.{size-is}
 use Rattle.record.specs.Recording.{workedOut, recordOf, writeCheck}
-use Rattle.record.specs.Steps.{Fillable}
 use Rattle.record.proofs.Answers.{evaluation-refused, evaluation-passed}
-use Rattle.record.proofs.Filling.{size-is}
-use Rattle.record.proofs.Writing.{evaluation-first, room-last, room-enough, refused-written, refused-table, passed-written, written-owed, fillable}
+use Rattle.record.proofs.Writing.{evaluation-first, room-last, room-enough, refused-written, refused-table, passed-written, written-owed, stated, filled-written}
 use borrow.Author.Needs.{needs}
 use Rattle.record.proofs.write.Statement.{statement}
 use Rattle.record.proofs.write.Tie as tie
@@ -52,19 +52,24 @@ passes w =
     room-enough (a .program .now) (a .trace .now) (a .n) (a .label) (a .table .now) (a .out .now) (worked w .0)
     (sized (w .before .before .before .before .before .before .before)) (w .before .before .before .before .before .before .if1 .left)
 
-fills : (w : tie.After-verdict) → let a = start w .args in
-    Fillable (a .program .now) (a .trace .now) (a .n) (a .label) (w .verdict .given .0 .0) (a .out .now)
-fills w =
+enough : (w : tie.After-verdict) → let a = start w .args in
+    length (recordOf (a .program .now) (a .trace .now) (a .n) (a .label)) ≤ length (a .out .now)
+enough w =
+    rw (← sized (w .before .before .before .before .before .before .before)) (w .before .before .before .before .before .before .if1 .left)
+
+are-bytes : (w : tie.After-verdict) → AreBytes (start w .args .program .now)
+are-bytes w i = omega (
+  arith,
+  w .before .before .before .before .before .before .before .before .before .before .before .shared-slice-known .given
+      i,
+)
+
+few-samples : (w : tie.After-verdict) → start w .args .n ≤ mostSamples
+unfolding recorded
+few-samples w =
     let a = start w .args in
-    let are : AreBytes (a .program .now) =
-    λ i. omega (
-      arith,
-      w .before .before .before .before .before .before .before .before .before .before .before .shared-slice-known .given
-          i,
-    ) in
-    fillable (a .program .now) (a .trace .now) (a .n) (a .label) (a .table .now) (a .out .now) are (label-size (start w)) (passes w)
-    (worked w .1) (rw (← sized (w .before .before .before .before .before .before .before))
-    (w .before .before .before .before .before .before .if1 .left))
+    stated (a .program .now) (a .trace .now) (a .n) (a .label) (a .table .now) (a .out .now) (are-bytes w) (label-size (start w)) (passes w)
+    (worked w .1) .few
 
 bytes-for-requires : tie.Need-bytes-for-requires
 bytes-for-requires c κs = search needs
@@ -115,10 +120,10 @@ enum-known-verdict : tie.Need-enum-known-verdict
 enum-known-verdict c = search needs
 
 cast-fill : tie.Need-cast-fill
-cast-fill c = record { fits = omega (arith, fills (c .before) .few) }
+cast-fill c = record { fits = omega (arith, few-samples (c .before)) }
 
 fill-requires : tie.Need-fill-requires
-fill-requires c κs = fills (c .before .before)
+fill-requires c κs = search needs
 
 same-length : tie.Need-same-length
 same-length c = search needs
@@ -147,8 +152,10 @@ returns-4 c =
     let s = start w in
     let a = s .args in
     let told = w .before .before .before .before .evaluate .ensures in
+    let whole = filled-written (a .program .now) (a .trace .now) (a .n) (a .label) (a .table .now) (a .out .now) (are-bytes w) (label-size s)
+    (passes w) (worked w .1) (enough w) (c .before .before .fill .ensures) in
     let r = passed-written (a .program .now) (a .trace .now) (a .n) (a .label) (a .table .now) (a .out .now) (passes w)
-    (sized (w .before .before .before .before .before .before .before)) (worked w .1) (c .before .before .fill .ensures) (told .1 .1 .0) in
+    (sized (w .before .before .before .before .before .before .before)) (worked w .1) whole (told .1 .1 .0) in
     written-owed (a .program .now) (a .trace .now) (a .n) (a .label) (a .table .now) (a .out .now) r
 
 pub write-spec : {M : Type 1} → statement M

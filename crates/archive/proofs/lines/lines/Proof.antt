@@ -6,7 +6,7 @@ use lib.ListN.{length, take}
 use lib.Seq.{length-take-le}
 use borrow.Author.Needs.{needs}
 use Rattle.encoding.proofs.Putting.{Left, front-end, length-begins}
-use Rattle.record.specs.declared.Reading.the-variants as read
+use Rattle.layout.specs.declared.Reading.the-variants as read
 use Rattle.record.specs.Reading.{reading}
 use Rattle.archive.specs.Walk.{walk}
 use Rattle.archive.specs.Listing.{listingCells, stopLine, linesOf}

@@ -4,8 +4,8 @@ use mathlib.Core.Path.{_≡_, sym, ap, _∙_}
 use native.Mathlib.Omega.{arith}
 use denote.Ref.{now}
 use borrow.Author.Needs.{needs}
-use Rattle.rule.specs.declared.Node.{Node}
-use Rattle.rule.specs.Form.{mostFunctions}
+use Rattle.syntax.specs.declared.Node.{Node}
+use Rattle.syntax.specs.Limits.{mostFunctions}
 use Rattle.rule.specs.Walk.{frameIn, atMostFour, checkAt, unaryAt, armsAt, callWalkedAt, nodeWalked}
 use Rattle.rule.proofs.Walking.{params-in, kinds-in, check-end, check-deep, check-node, unary-of, unary-not, call-none, call-not, call-args, Along, along-start, along-end, along-more}
 use borrow.Fn.Kinds.{In}
@@ -29,7 +29,7 @@ use Rattle.rule.proofs.expression.leaf.Reads as leaf-reads
 use Rattle.rule.proofs.expression.param.Reads as param-reads
 use Rattle.rule.proofs.expression.refused.Reads as refused-reads
 use Rattle.rule.proofs.expression.wide.Reads as wide-reads
-use Rattle.rule.proofs.nodes.node_of.Reads as node-of-reads
+use Rattle.syntax.proofs.node_of.Reads as node-of-reads
 use Rattle.trace.proofs.bit.Reads as bit-reads
 use Rattle.rule.proofs.expression.+arms+call+check+unary.{statement}
 use Rattle.rule.proofs.expression.+arms+call+check+unary.Tie.{close}

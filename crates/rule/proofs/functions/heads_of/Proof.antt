@@ -4,7 +4,7 @@ use mathlib.Core.List.{List}
 use Prim.Native.Nat.{ℕ}
 use lib.ListN.{length, set, length-replicate}
 use lib.Seq.{paste}
-use Rattle.rule.specs.Form.{mostFunctions}
+use Rattle.syntax.specs.Limits.{mostFunctions}
 use Rattle.rule.specs.Walk.{kindsPlace, functionsPlace, ownParamsPlace, ownKindsPlace, headsLength, frameIn}
 use Rattle.rule.proofs.FrameWays.{heads-frame}
 use borrow.Author.Needs.{needs}

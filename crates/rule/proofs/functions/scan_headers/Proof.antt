@@ -4,7 +4,7 @@ use Prim.Native.Nat.{_+_, _-_, _≤_}
 use native.Mathlib.Omega.{arith}
 use lib.ListN.{length}
 use borrow.Author.Needs.{needs}
-use Rattle.rule.specs.Form.{mostBody}
+use Rattle.syntax.specs.Limits.{mostBody}
 use Rattle.rule.proofs.Scanning.{Scanned, scanned-start, scanned-stop, scanned-more, next-fits, scan-refused, scan-passed}
 use Rattle.rule.proofs.functions.scan_headers.Statement.{statement}
 use Rattle.rule.proofs.functions.scan_headers.Tie as tie
@@ -19,7 +19,7 @@ loop-holds : tie.Need-loop-holds Inv-loop μ-loop
 loop-holds c = scanned-start _ _ (c .before .pre .some)
 
 header-at-requires : tie.Need-header-at-requires Inv-loop μ-loop
-header-at-requires c κs = c .before .loop .inv .within
+header-at-requires c κs = search needs
 
 enum-known-refusal : tie.Need-enum-known-refusal Inv-loop μ-loop
 enum-known-refusal c = search needs

@@ -1,0 +1,7 @@
+pub mod Answers
+pub mod Fields
+pub mod Places
+pub mod Inverse
+pub mod Ends
+pub mod Locating
+pub mod Filling

@@ -1,0 +1,74 @@
+// The trailer and the bytes before it: numbers at a place, 3 and 4 of the list, and where the parts stand.
+use crate::Parts;
+use crate::Reading;
+use crate::Span;
+use refusal::Refusal;
+ghost use mathlib.Core.Path.{_≡_};
+ghost use Prim.Native.Nat.{_+_, _≤_};
+ghost use lib.ListN.{length};
+ghost use Rattle.layout.specs.Trailer.{numberAt, fieldsFault};
+ghost use Rattle.layout.specs.Steps.{partsStored, Distances};
+
+// The number of 16 bits at a place.
+pub fn sixteen(bytes: &[u8], at: usize) -> u16
+    requires { ⌜ at + 2 ≤ length (now bytes) ⌝ }
+    ensures { λ r. ⌜ r ≡ numberAt 2 at (now (bytes .entry)) ⌝ }
+{
+    encoding::from16(bytes[at], bytes[at + 1])
+}
+
+// The number of 32 bits at a place.
+fn thirty_two(bytes: &[u8], at: usize) -> u32
+    requires { ⌜ at + 4 ≤ length (now bytes) ⌝ }
+    ensures { λ r. ⌜ r ≡ numberAt 4 at (now (bytes .entry)) ⌝ }
+{
+    encoding::from32(bytes[at], bytes[at + 1], bytes[at + 2], bytes[at + 3])
+}
+
+// Whether 3 applies; so many bytes stand before the trailer.
+pub fn fields_fault(before: usize, first: usize, second: usize, n: usize) -> bool
+    ensures { λ r. ⌜ r ≡ fieldsFault before first second n ⌝ }
+{
+    if trace::MOST_SAMPLES < n {
+        return true;
+    }
+    if second != trace::bytes_for(n) + crate::AFTER_TRACE {
+        return true;
+    }
+    if first <= second {
+        return true;
+    }
+    before < first
+}
+
+// The parts of a record whose trailer stands at a place and has these fields, unless 4 applies.
+pub fn stored_parts(bytes: &[u8], at: usize, first: usize, second: usize, n: u16) -> Reading
+    requires { ⌜ Distances (length (now bytes)) at first second ⌝ }
+    ensures { λ r. ⌜ r ≡ partsStored (now (bytes .entry)) at first second n ⌝ }
+{
+    let verdict = bytes[at - 5];
+    let passes = thirty_two(bytes, at - 4);
+    if crate::MOST_VERDICT < verdict {
+        return Reading::Refused(Refusal::VerdictOrPasses);
+    }
+    if passes == 0 {
+        return Reading::Refused(Refusal::VerdictOrPasses);
+    }
+    Reading::Record(Parts {
+        program: Span {
+            start: at - first,
+            length: first - second,
+        },
+        trace: Span {
+            start: at - second,
+            length: second - crate::AFTER_TRACE,
+        },
+        n,
+        label: Span {
+            start: at - crate::AFTER_TRACE,
+            length: crate::LABEL,
+        },
+        verdict,
+        passes,
+    })
+}

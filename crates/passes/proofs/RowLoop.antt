@@ -1,0 +1,86 @@
+-- The rows of a function, visited one after the other:
+--   Stepping                     some rows have been visited, and the values are those of the next
+--   stepping-start               before the first
+--   stepping-inside,
+--   stepping-ready               the next row, and what it asks
+--   stepping-more, stepping-end  after one more, and after all
+use mathlib.Core.Path.{_≡_, refl, sym, ap, _∙_}
+use mathlib.Core.List.{List, [], _∷_}
+use Prim.Native.Nat.{ℕ, _+_, _-_, _*_, _<_, _≤_}
+use native.Mathlib.Nat.{mul-le-mul-right}
+use native.Mathlib.Omega.{arith}
+use lib.ListN.{length, set}
+use Rattle.syntax.specs.Limits.{mostParams}
+use Rattle.passes.specs.Mirror.{Setup, kindsOf, countOf, sizeFrom, sizeOf, valuesInto, envAt, rowWidth, stepped, Ready, RowReady, SameOthers, visitsFrom, storesFrom}
+use Rattle.passes.proofs.Rows.{size-rows, row-values, step-others}
+use Rattle.passes.proofs.PassWays.{Visited, visited-start, visited-length, visited-row, visited-end}
+
+module _ (S : Setup) (n g body : ℕ) (T₀ : List ℕ) where
+  abbrev kinds : ℕ
+  kinds = kindsOf (S .functions) g
+
+  abbrev count : ℕ
+  count = countOf (S .functions) g
+
+  abbrev others : ℕ
+  others = count - 1
+
+  abbrev width : ℕ
+  width = rowWidth kinds n count
+
+  abbrev rows : ℕ
+  rows = sizeFrom kinds n 0 others
+
+  -- what the values are put into
+  abbrev blank : List ℕ
+  blank = 0 ∷ 0 ∷ 0 ∷ 0 ∷ n ∷ []
+
+  -- r rows have been visited, up to configuration `base`; env has the values of row r, but for the last parameter's
+  pub record Stepping (T env : List ℕ) (stored base r : ℕ) : Type 0 where
+    pub visited : Visited S n g body 0 T₀ T stored base
+    pub place : base ≡ r * width
+    pub few : r ≤ rows
+    pub values : r < rows → SameOthers others (valuesInto kinds n others r blank) env
+
+  pub stepping-start : {env : List ℕ} → env ≡ valuesInto kinds n others 0 blank → Stepping T₀ env 0 0 0
+  stepping-start e = record {
+    visited = visited-start S n g body 0 T₀;
+    place = omega arith;
+    few = omega arith;
+    values = λ h v. ap (λ (m : List ℕ). set m others v) e;
+  }
+
+  sizes : sizeOf (S .functions) n g ≡ rows * width
+  sizes = size-rows kinds n count
+
+  module _ (u : Ready (S .functions) n g (length T₀)) (narrow : count ≤ mostParams) {T env : List ℕ} {stored base r : ℕ}
+      (p : Stepping T env stored base r) where
+    -- the next row lies within the function's configurations
+    pub stepping-inside : r < rows → base + width ≤ sizeOf (S .functions) n g
+    stepping-inside h = omega (arith, p .place, sizes, mul-le-mul-right width h)
+
+    pub stepping-ready : r < rows → RowReady (S .functions) n g (length T) base env
+    stepping-ready h = record {
+      ready = record { below = u .below; samples = u .samples; within = omega (arith, u .within, visited-length (p .visited)) };
+      inside = stepping-inside h;
+      values = λ d l.
+          p .values h _
+          ∙ row-values kinds n (u .samples) count r d blank refl h l
+          ∙ ap (λ (b : ℕ). envAt (S .functions) n g (b + d)) (sym (p .place));
+    }
+
+    pub stepping-more : r < rows → (env₁ : List ℕ) {T′ env′ : List ℕ} {more : ℕ} → T′ ≡ visitsFrom S n g body base width T → more ≡ storesFrom S n g body base width T
+        → SameOthers others env env₁ → env′ ≡ stepped kinds n others env₁ → Stepping T′ env′ (stored + more) (base + width) (r + 1)
+    stepping-more h env₁ v s o e = record {
+      visited = visited-row width (p .visited) v s;
+      place = omega (arith, p .place);
+      few = omega arith;
+      values = λ l. step-others kinds n (u .samples) others r blank env₁ (omega arith) l (λ w. o w ∙ p .values h w) e;
+    }
+
+    pub stepping-end : rows ≤ r → (T ≡ visitsFrom S n g body 0 (sizeOf (S .functions) n g) T₀)
+        × (stored ≡ storesFrom S n g body 0 (sizeOf (S .functions) n g) T₀)
+    stepping-end h =
+        let all : r ≡ rows = omega (arith, p .few) in
+        let whole : base ≡ sizeOf (S .functions) n g = p .place ∙ ap (λ (k : ℕ). k * width) all ∙ sym sizes in
+        visited-end (p .visited) (omega arith) (omega arith) whole

@@ -1,0 +1,304 @@
+-- Rows of configurations, and their values as digits that step from row to row:
+--   size-most                      the most configurations of a function
+--   size-rows                      a function's configurations are its rows, each as wide
+--   values-above, values-other     places past the parameters
+--   row-values                     the values of a configuration: those of its row, with the last parameter's put in
+--   step-values                    stepping the values of row x gives those of row x + 1
+--   step-others                    whatever stands in the last parameter's place
+--   width-some, width-bound,
+--   lowest-some, lowest-bound      how wide a row is, and its first value
+--   step-stops, step-goes,
+--   step-whole                     a step: where it ends, where it carries, and where nothing is left
+use mathlib.Core.Path.{_≡_, refl, sym, ap, _∙_}
+use mathlib.Core.Bool.{Bool, true, false, cond}
+use mathlib.Core.List.{List}
+use Prim.Native.Nat.{ℕ, zero, suc, _+_, _-_, _*_, _/_, _%_, _^_, _<_, _≤_}
+use native.Mathlib.Nat.{zero-add, mul-assoc, mul-le-mul, mod-lt, div-add-mod', div-lt-iff-lt-mul, pow-succ', pow-le-pow-right}
+use native.Mathlib.Numerals.{add-one, sub-one}
+use native.Mathlib.Omega.{arith}
+use lib.Arith.{digits-div, digits-mod}
+use lib.Dec.{ltb}
+use lib.ListN.{length, getD, set, length-set}
+use lib.Seq.{getD-set-same, getD-set-other, set-getD, set-set, set-comm}
+use borrow.Author.Tests.{lt-ltb, le-ltb, ltb-true, ltb-false}
+use Rattle.trace.specs.{mostSamples, bitOf}
+use Rattle.syntax.specs.Limits.{mostParams}
+use Rattle.codes.specs.{radixOf, lowestCode}
+use Rattle.passes.specs.Mirror.{mostValues, mostConfigurations, valueNumber, sizeFrom, valuesInto, rowWidth, rowLowest, stepped, SameOthers}
+use Rattle.passes.proofs.SetupLoops.{radix-bound, radix-pos}
+
+-- the number of a value that its kind has
+small-number : (list : Bool) (n d : ℕ) → n ≤ mostSamples → d < radixOf list n → valueNumber list d ≡ lowestCode list + d
+small-number true n d h l = omega arith
+small-number false n d h l = omega arith
+
+module _ (kinds n : ℕ) where
+  abbrev radix : ℕ → ℕ
+  radix i = radixOf (bitOf i kinds) n
+
+  abbrev lowest : ℕ → ℕ
+  lowest i = lowestCode (bitOf i kinds)
+
+  abbrev numberAt : ℕ → ℕ → ℕ
+  numberAt i d = valueNumber (bitOf i kinds) d
+
+  -- ---- How many there are
+
+  size-snoc : (i left : ℕ) → sizeFrom kinds n i (suc left) ≡ sizeFrom kinds n i left * radix (i + left)
+  unfolding sizeFrom
+  size-snoc i zero = let z : i + 0 ≡ i = omega arith in rw z (omega arith)
+  size-snoc i (suc left) =
+      let z : i + 1 + left ≡ i + suc left = omega arith in
+      ap (λ (s : ℕ). radix i * s) (size-snoc (i + 1) left)
+      ∙ sym (mul-assoc (radix i) (sizeFrom kinds n (i + 1) left) (radix (i + 1 + left)))
+      ∙ ap (λ (j : ℕ). radix i * sizeFrom kinds n (i + 1) left * radix j) z
+
+  pub size-rows : (count : ℕ) → sizeFrom kinds n 0 count ≡ sizeFrom kinds n 0 (count - 1) * rowWidth kinds n count
+  unfolding sizeFrom
+  size-rows zero = refl
+  size-rows (suc c) = rw sub-one (size-snoc 0 c ∙ ap (λ (j : ℕ). sizeFrom kinds n 0 c * radix j) (zero-add c))
+
+  size-power : n ≤ mostSamples → (i c : ℕ) → sizeFrom kinds n i c ≤ mostValues ^ c
+  unfolding sizeFrom
+  size-power few i zero = omega arith
+  size-power few i (suc c) = rw pow-succ' (mul-le-mul (radix-bound (bitOf i kinds) n few) (size-power few (i + 1) c))
+
+  pub size-most : n ≤ mostSamples → (c : ℕ) → c ≤ mostParams → sizeFrom kinds n 0 c ≤ mostConfigurations
+  size-most few c h = omega (arith, size-power few 0 c, pow-le-pow-right {n = mostValues} (omega arith) h)
+
+  -- ---- Places past the parameters
+
+  pub values-above : (c x : ℕ) (env : List ℕ) (j : ℕ) → c ≤ j → getD (valuesInto kinds n c x env) j 0 ≡ getD env j 0
+  unfolding valuesInto
+  values-above zero x env j h = refl
+  values-above (suc zero) x env j h = getD-set-other env 0 j _ 0 (λ e. omega arith)
+  values-above (suc (suc c)) x env j h = values-above (suc c) _ _ j (omega arith) ∙ getD-set-other env (suc c) j _ 0 (λ e. omega arith)
+
+  values-other : (c x : ℕ) (env : List ℕ) (j v : ℕ) → c ≤ j → valuesInto kinds n c x (set env j v) ≡ set (valuesInto kinds n c x env) j v
+  unfolding valuesInto
+  values-other zero x env j v h = refl
+  values-other (suc zero) x env j v h = set-comm env j 0 v _ (λ e. omega arith)
+  values-other (suc (suc c)) x env j v h =
+      ap (valuesInto kinds n (suc c) (x / radix (suc c))) (set-comm env j (suc c) v (numberAt (suc c) (x % radix (suc c))) (λ e. omega arith))
+      ∙ values-other (suc c) (x / radix (suc c)) (set env (suc c) (numberAt (suc c) (x % radix (suc c)))) j v (omega arith)
+
+  -- ---- The values of a row
+
+  last-apart : (c r d : ℕ) (env : List ℕ) → r < sizeFrom kinds n 0 c → d < radix c
+      → valuesInto kinds n (suc c) (r * radix c + d) env ≡ set (valuesInto kinds n c r env) c (numberAt c d)
+  unfolding valuesInto sizeFrom
+  last-apart zero r d env h l =
+      let none : r ≡ 0 = omega arith in
+      let same : r * radix 0 + d ≡ d = rw none (omega arith) in
+      ap (λ (x : ℕ). set env 0 (numberAt 0 x)) same
+  last-apart (suc c) r d env h l =
+      let K = radix (suc c) in
+      ap (λ (q : ℕ). valuesInto kinds n (suc c) q (set env (suc c) (numberAt (suc c) ((r * K + d) % K)))) (digits-div r l)
+      ∙ ap (λ (m : ℕ). valuesInto kinds n (suc c) r (set env (suc c) (numberAt (suc c) m))) (digits-mod r l)
+      ∙ values-other (suc c) r env (suc c) (numberAt (suc c) d) (omega arith)
+
+  pub row-values : n ≤ mostSamples → (count r d : ℕ) (env : List ℕ) → getD env 0 0 ≡ 0 → r < sizeFrom kinds n 0 (count - 1) → d < rowWidth kinds n count
+      → set (valuesInto kinds n (count - 1) r env) (count - 1) (rowLowest kinds count + d) ≡ valuesInto kinds n count (r * rowWidth kinds n count + d) env
+  unfolding valuesInto
+  row-values few zero r d env z h l =
+      let none : 0 + d ≡ getD env 0 0 = omega (arith, z) in
+      ap (set env 0) none ∙ set-getD env 0 0
+  row-values few (suc c) r d env z h l =
+      let back : r < sizeFrom kinds n 0 c = rw sub-one at h in
+      rw sub-one
+      (ap (set (valuesInto kinds n c r env) c) (sym (small-number (bitOf c kinds) n d few l)) ∙ sym (last-apart c r d env back l))
+
+  -- ---- As the code works them out
+
+  module _ (count : ℕ) (some : count ≡ 0 → ⊥) {list : Bool} (e : list ≡ bitOf (count - 1) kinds) where
+    pub width-some : {r : ℕ} → r ≡ radixOf list n → r ≡ rowWidth kinds n count
+    width-some q = go count some (q ∙ rw e)
+      where
+        go : (c : ℕ) → (c ≡ 0 → ⊥) → {r : ℕ} → r ≡ radixOf (bitOf (c - 1) kinds) n → r ≡ rowWidth kinds n c
+        go zero z q = absurd (z refl)
+        go (suc c) z q = q ∙ rw sub-one
+
+    pub lowest-some : {r : ℕ} → r ≡ lowestCode list → r ≡ rowLowest kinds count
+    lowest-some q = go count some (q ∙ rw e)
+      where
+        go : (c : ℕ) → (c ≡ 0 → ⊥) → {r : ℕ} → r ≡ lowestCode (bitOf (c - 1) kinds) → r ≡ rowLowest kinds c
+        go zero z q = absurd (z refl)
+        go (suc c) z q = q ∙ rw sub-one
+
+  pub width-bound : n ≤ mostSamples → (count : ℕ) → rowWidth kinds n count ≤ mostValues
+  width-bound few zero = omega arith
+  width-bound few (suc c) = radix-bound (bitOf c kinds) n few
+
+  pub lowest-bound : (count : ℕ) → rowLowest kinds count ≤ 5
+  lowest-bound zero = omega arith
+  lowest-bound (suc c) = go (bitOf c kinds)
+    where
+      go : (b : Bool) → lowestCode b ≤ 5
+      go true = omega arith
+      go false = omega arith
+
+  module _ (i : ℕ) (env : List ℕ) (some : 0 < i) {list : Bool} {low K next : ℕ} (b : list ≡ bitOf (i - 1) kinds) (l : low ≡ lowestCode list)
+      (k : K ≡ radixOf list n) (x : next ≡ getD env (i - 1) 0 + 1) where
+    pub step-stops : next < low + K → {all : List ℕ} → all ≡ stepped kinds n i env → set env (i - 1) next ≡ all
+    unfolding stepped
+    step-stops h q = go i some b x q
+      where
+        go : (i : ℕ) → 0 < i → list ≡ bitOf (i - 1) kinds → next ≡ getD env (i - 1) 0 + 1 → {all : List ℕ} → all ≡ stepped kinds n i env
+            → set env (i - 1) next ≡ all
+        go zero z b x q = absurd (omega arith)
+        go (suc i) z b x q =
+            let same : i ≡ suc i - 1 = omega arith in
+            let test : getD env i 0 + 1 < lowestCode (bitOf i kinds) + radixOf (bitOf i kinds) n = rw (same, ← b, ← l, ← k, ← x) h in
+            let up : next ≡ getD env i 0 + 1 = rw same x in
+            rw (← same) (ap (set env i) up ∙ sym (q ∙ rw (lt-ltb _ _ test)))
+
+    pub step-goes : low + K ≤ next → {all : List ℕ} → all ≡ stepped kinds n i env → all ≡ stepped kinds n (i - 1) (set env (i - 1) low)
+    unfolding stepped
+    step-goes h q = go i some b x q
+      where
+        go : (i : ℕ) → 0 < i → list ≡ bitOf (i - 1) kinds → next ≡ getD env (i - 1) 0 + 1 → {all : List ℕ} → all ≡ stepped kinds n i env
+            → all ≡ stepped kinds n (i - 1) (set env (i - 1) low)
+        go zero z b x q = absurd (omega arith)
+        go (suc i) z b x q =
+            let same : i ≡ suc i - 1 = omega arith in
+            let test : lowestCode (bitOf i kinds) + radixOf (bitOf i kinds) n ≤ getD env i 0 + 1 = rw (same, ← b, ← l, ← k, ← x) h in
+            let first : lowestCode (bitOf i kinds) ≡ low = rw (same, ← b) (sym l) in
+            rw (← same) (q ∙ rw (le-ltb _ _ test, first))
+
+  pub step-whole : (i : ℕ) (env : List ℕ) {all : List ℕ} → all ≡ stepped kinds n i env → i ≤ 0 → env ≡ all
+  unfolding stepped
+  step-whole zero env q h = sym q
+  step-whole (suc i) env q h = absurd (omega arith)
+
+  -- ---- Steps
+
+  step-other : (c : ℕ) (env : List ℕ) (j v : ℕ) → c ≤ j → stepped kinds n c (set env j v) ≡ set (stepped kinds n c env) j v
+  unfolding stepped
+  step-other zero env j v h = refl
+  step-other (suc c) env j v h =
+      let same = getD-set-other env j c v 0 (λ e. omega arith) in
+      rw same (go (λ e. step-other c e j v (omega arith)) (ltb (getD env c 0 + 1) (lowest c + radix c)))
+    where
+      go : ((e : List ℕ) → stepped kinds n c (set e j v) ≡ set (stepped kinds n c e) j v) → (b : Bool)
+          → cond b (set (set env j v) c (getD env c 0 + 1)) (stepped kinds n c (set (set env j v) c (lowest c)))
+          ≡ set (cond b (set env c (getD env c 0 + 1)) (stepped kinds n c (set env c (lowest c)))) j v
+      go ih true = set-comm env j c v _ (λ e. omega arith)
+      go ih false = ap (stepped kinds n c) (set-comm env j c v _ (λ e. omega arith)) ∙ ih (set env c (lowest c))
+
+  -- one digit up, where it has not reached its kind's last value, and where it has
+  step-up : (c : ℕ) (env : List ℕ) (d : ℕ) → n ≤ mostSamples → c < length env → getD env c 0 ≡ numberAt c d → d + 1 < radix c
+      → stepped kinds n (suc c) env ≡ set env c (numberAt c (d + 1))
+  unfolding stepped
+  step-up c env d few room e h =
+      let now = small-number (bitOf c kinds) n d few (omega arith) in
+      let next = small-number (bitOf c kinds) n (d + 1) few h in
+      let test : getD env c 0 + 1 < lowest c + radix c = omega arith in
+      let up : getD env c 0 + 1 ≡ numberAt c (d + 1) = omega arith in
+      rw (lt-ltb _ _ test, up)
+
+  step-carry : (c : ℕ) (env : List ℕ) (d : ℕ) → n ≤ mostSamples → getD env c 0 ≡ numberAt c d → d < radix c → radix c ≤ d + 1
+      → stepped kinds n (suc c) env ≡ stepped kinds n c (set env c (numberAt c 0))
+  unfolding stepped
+  step-carry c env d few e l h =
+      let now = small-number (bitOf c kinds) n d few l in
+      let first = small-number (bitOf c kinds) n 0 few (radix-pos (bitOf c kinds) n) in
+      let test : lowest c + radix c ≤ getD env c 0 + 1 = omega arith in
+      let low : lowest c ≡ numberAt c 0 = omega arith in
+      rw (le-ltb _ _ test) (ap (λ (v : ℕ). stepped kinds n c (set env c v)) low)
+
+  -- a number and the next, by their last digits
+  module _ (x K : ℕ) (pos : 0 < K) where
+    split : x / K * K + x % K ≡ x
+    split = div-add-mod' x K
+
+    up-digits : x % K + 1 < K → (x / K ≡ (x + 1) / K) × (x % K + 1 ≡ (x + 1) % K)
+    up-digits h =
+        let next : x / K * K + (x % K + 1) ≡ x + 1 = omega (arith, split) in
+        (sym (digits-div (x / K) h) ∙ ap (λ (y : ℕ). y / K) next, sym (digits-mod (x / K) h) ∙ ap (λ (y : ℕ). y % K) next)
+
+    carry-digits : K ≤ x % K + 1 → (x / K + 1 ≡ (x + 1) / K) × (0 ≡ (x + 1) % K)
+    carry-digits h =
+        let top = mod-lt x pos in
+        let next : (x / K + 1) * K + 0 ≡ x + 1 = omega (arith, split) in
+        (sym (digits-div (x / K + 1) pos) ∙ ap (λ (y : ℕ). y / K) next, sym (digits-mod (x / K + 1) pos) ∙ ap (λ (y : ℕ). y % K) next)
+
+  length-values : (c x : ℕ) (env : List ℕ) → length (valuesInto kinds n c x env) ≡ length env
+  unfolding valuesInto
+  length-values zero x env = refl
+  length-values (suc zero) x env = length-set env 0 _
+  length-values (suc (suc c)) x env = length-values (suc c) _ _ ∙ length-set env (suc c) _
+
+  -- the last digit stepped, the others by what is known of them
+  module _ (few : n ≤ mostSamples) (c x : ℕ) (env : List ℕ) (room : suc c < length env) where
+    abbrev i : ℕ
+    i = suc c
+
+    abbrev K : ℕ
+    K = radix (suc c)
+
+    abbrev before : List ℕ
+    before = set env i (numberAt i (x % K))
+
+    pos : 0 < K
+    pos = radix-pos (bitOf (suc c) kinds) n
+
+    digit-here : getD (valuesInto kinds n i (x / K) before) i 0 ≡ numberAt i (x % K)
+    digit-here = values-above i (x / K) before i (omega arith) ∙ getD-set-same env i (numberAt i (x % K)) 0 room
+
+    put-digit : (v : ℕ) → set (valuesInto kinds n i (x / K) before) i v ≡ valuesInto kinds n i (x / K) (set env i v)
+    put-digit v =
+        sym (values-other i (x / K) before i v (omega arith))
+        ∙ ap (valuesInto kinds n i (x / K)) (set-set env i (numberAt i (x % K)) v)
+
+    long : i < length (valuesInto kinds n i (x / K) before)
+    long = omega (arith, length-values i (x / K) before, length-set env i (numberAt i (x % K)), room)
+
+    next-above : x + 1 < sizeFrom kinds n 0 (suc i) → (x + 1) / K < sizeFrom kinds n 0 i
+    next-above h =
+        let rows : sizeFrom kinds n 0 (suc i) ≡ sizeFrom kinds n 0 i * K =
+        size-snoc 0 i ∙ ap (λ (j : ℕ). sizeFrom kinds n 0 i * radix j) (zero-add i) in
+        div-lt-iff-lt-mul pos .1 (rw rows at h)
+
+    step-more : x + 1 < sizeFrom kinds n 0 (suc i)
+        → ((y : ℕ) → y + 1 < sizeFrom kinds n 0 i
+        → stepped kinds n i (valuesInto kinds n i y (set env i (numberAt i 0))) ≡ valuesInto kinds n i (y + 1) (set env i (numberAt i 0)))
+        → (b : Bool) → ltb (x % K + 1) K ≡ b
+        → stepped kinds n (suc i) (valuesInto kinds n i (x / K) before) ≡ valuesInto kinds n i ((x + 1) / K) (set env i (numberAt i ((x + 1) % K)))
+    step-more h ih true t =
+        let l = ltb-true _ _ t in
+        let u = up-digits x K pos l in
+        step-up i (valuesInto kinds n i (x / K) before) (x % K) few long digit-here l
+        ∙ put-digit (numberAt i (x % K + 1))
+        ∙ ap (λ (q : ℕ). valuesInto kinds n i q (set env i (numberAt i (x % K + 1)))) (u .0)
+        ∙ ap (λ (m : ℕ). valuesInto kinds n i ((x + 1) / K) (set env i (numberAt i m))) (u .1)
+    step-more h ih false t =
+        let l = ltb-false _ _ t in
+        let u = carry-digits x K pos l in
+        step-carry i (valuesInto kinds n i (x / K) before) (x % K) few digit-here (mod-lt x pos) l
+        ∙ ap (stepped kinds n i) (put-digit (numberAt i 0))
+        ∙ ih (x / K) (rw (u .0) (next-above h))
+        ∙ ap (λ (q : ℕ). valuesInto kinds n i q (set env i (numberAt i 0))) (u .0)
+        ∙ ap (λ (m : ℕ). valuesInto kinds n i ((x + 1) / K) (set env i (numberAt i m))) (u .1)
+
+  pub step-values : n ≤ mostSamples → (c x : ℕ) (env : List ℕ) → c ≤ length env → x + 1 < sizeFrom kinds n 0 c
+      → stepped kinds n c (valuesInto kinds n c x env) ≡ valuesInto kinds n c (x + 1) env
+  unfolding valuesInto sizeFrom
+  step-values few zero x env h l = absurd (omega arith)
+  step-values few (suc zero) x env h l =
+      step-up 0 (set env 0 (numberAt 0 x)) x few (omega (arith, length-set env 0 (numberAt 0 x))) (getD-set-same env 0 (numberAt 0 x) 0 (omega arith))
+      (omega arith)
+      ∙ set-set env 0 (numberAt 0 x) (numberAt 0 (x + 1))
+  step-values few (suc (suc c)) x env h l =
+      step-more few c x env h l
+      (λ y b. step-values few (suc c) y (set env (suc c) (numberAt (suc c) 0)) (omega (arith, length-set env (suc c) (numberAt (suc c) 0))) b)
+      (ltb (x % radix (suc c) + 1) (radix (suc c))) refl
+
+  -- from row to row, whatever stands in the last parameter's place
+  pub step-others : n ≤ mostSamples → (c x : ℕ) (env now : List ℕ) {next : List ℕ} → c ≤ length env → x + 1 < sizeFrom kinds n 0 c
+      → SameOthers c (valuesInto kinds n c x env) now → next ≡ stepped kinds n c now → SameOthers c (valuesInto kinds n c (x + 1) env) next
+  step-others few c x env now h l e q v =
+      ap (λ (m : List ℕ). set m c v) q
+      ∙ sym (step-other c now c v (omega arith))
+      ∙ ap (stepped kinds n c) (e v)
+      ∙ step-other c (valuesInto kinds n c x env) c v (omega arith)
+      ∙ ap (λ (m : List ℕ). set m c v) (step-values few c x env h l)

@@ -1,0 +1,201 @@
+-- `row` meets its contract. Before each turn the configurations of the row below d have been visited, and the values of the other
+-- parameters are as they were.
+use mathlib.Core.List.{List}
+use mathlib.Core.Path.{_≡_, refl, sym, ap, _∙_}
+use mathlib.Core.Logic.{⊎-elim}
+use Prim.Native.Nat.{ℕ, _+_, _-_, _<_, _≤_}
+use native.Mathlib.Omega.{arith}
+use lib.ListN.{length, getD, set}
+use lib.Seq.{set-set}
+use borrow.Author.Needs.{needs}
+use Rattle.passes.specs.Mirror.{setup, firstOf, kindsOf, countOf, envAt, rowWidth, rowLowest, SameOthers}
+use Rattle.passes.proofs.Rows.{width-bound, lowest-bound}
+use Rattle.passes.proofs.PassWays.{Visited, visited-start, visited-length, visited-few, visited-kept, visited-open, visited-end}
+use Rattle.passes.proofs.row.Statement.{statement}
+use Rattle.passes.proofs.row.Tie as tie
+
+abbrev Inv-loop : tie.InvT-loop
+Inv-loop words trace functions table₀ env₀ n g body base kinds count function slot lowest width start stored₀ d₀ table env stored d =
+    Visited (setup words functions trace) n g body base table₀ table stored d × (d ≤ width) × SameOthers slot env₀ env
+
+abbrev μ-loop : tie.MeasureT-loop
+μ-loop words trace functions table₀ env₀ n g body base kinds count function slot lowest width start stored₀ d₀ table env stored d = width - d
+
+wide-is : (c : tie.After-row-width Inv-loop μ-loop) → let a = c .before .before .before .before .before .before .before .args in
+    c .row-width .result ≡ rowWidth (kindsOf (a .functions .now) (a .g)) (a .n) (countOf (a .functions .now) (a .g))
+wide-is c = rw (c .before .before .before .before .count .ensures .0) at (c .row-width .ensures)
+
+lowest-is : (c : tie.After-row-lowest Inv-loop μ-loop) → let a = c .before .before .before .before .before .before .args in
+    c .row-lowest .result ≡ rowLowest (kindsOf (a .functions .now) (a .g)) (countOf (a .functions .now) (a .g))
+lowest-is c = rw (c .before .before .before .count .ensures .0) at (c .row-lowest .ensures)
+
+slot-is : (c : tie.After-last Inv-loop μ-loop) → let a = c .before .before .before .before .before .args in c .last .result ≡ countOf (a .functions .now) (a .g) - 1
+slot-is c = rw (c .before .before .count .ensures .0) at (c .last .ensures)
+
+-- a configuration's cell, which lies within the table
+place : (c : tie.In-loop Inv-loop μ-loop) → let a = c .before .before .before .before .before .before .before .before .before .before .args in
+    getD (a .functions .now) (a .g) 0 + a .base + c .before .loop .d ≡ firstOf (a .functions .now) (a .g) + (a .base + c .before .loop .d)
+place c = omega arith
+
+within : (c : tie.In-loop Inv-loop μ-loop) → let a = c .before .before .before .before .before .before .before .before .before .before .args in
+    getD (a .functions .now) (a .g) 0 + a .base + c .before .loop .d < length (c .before .loop .table)
+within c =
+    let s = c .before .before .before .before .before .before .before .before .before .before in
+    omega (arith, s .pre .ready .within, s .pre .inside, wide-is (c .before .before .before), visited-length (c .before .loop .inv .0), c .loop-test .taken)
+
+-- the number of the last parameter's value fits
+small : (c : tie.In-loop Inv-loop μ-loop) → c .before .before .before .before .row-lowest .result + c .before .loop .d < 65536
+small c =
+    let s = c .before .before .before .before .before .before .before .before .before .before in
+    let kinds = kindsOf (s .args .functions .now) (s .args .g) in
+    let count = countOf (s .args .functions .now) (s .args .g) in
+    omega (
+      arith,
+      lowest-is (c .before .before .before .before),
+      lowest-bound kinds 0 count,
+      wide-is (c .before .before .before),
+      width-bound kinds (s .args .n) (s .pre .ready .samples) count,
+      c .loop-test .taken,
+    )
+
+-- the values are those of the configuration
+values-here : (c : tie.In-loop Inv-loop μ-loop) → let a = c .before .before .before .before .before .before .before .before .before .before .args in
+    set (c .before .loop .env) (c .before .before .before .before .before .last .result) (c .before .before .before .before .row-lowest .result + c .before .loop .d)
+    ≡ envAt (a .functions .now) (a .n) (a .g) (a .base + c .before .loop .d)
+values-here c =
+    let s = c .before .before .before .before .before .before .before .before .before .before in
+    c .before .loop .inv .2 (c .before .before .before .before .row-lowest .result + c .before .loop .d)
+    ∙ rw (slot-is (c .before .before .before .before .before), lowest-is (c .before .before .before .before)) (s .pre .values (c .before .loop .d) (omega (arith, wide-is (c .before .before .before), c .loop-test .taken)))
+
+add-kinds : tie.Need-add-kinds Inv-loop μ-loop
+add-kinds c = search needs
+
+mul-kinds : tie.Need-mul-kinds Inv-loop μ-loop
+mul-kinds c = search needs
+
+element-copy-out-kinds : tie.Need-element-copy-out-kinds Inv-loop μ-loop
+element-copy-out-kinds c = search needs
+
+count-requires : tie.Need-count-requires Inv-loop μ-loop
+count-requires c κs = c .before .before .pre .ready .below
+
+mul-function : tie.Need-mul-function Inv-loop μ-loop
+mul-function c = search needs
+
+add-function : tie.Need-add-function Inv-loop μ-loop
+add-function c = search needs
+
+mul-function-2 : tie.Need-mul-function-2 Inv-loop μ-loop
+mul-function-2 c = search needs
+
+element-copy-out-function : tie.Need-element-copy-out-function Inv-loop μ-loop
+element-copy-out-function c = search needs
+
+last-requires : tie.Need-last-requires Inv-loop μ-loop
+last-requires c κs = search needs
+
+row-lowest-requires : tie.Need-row-lowest-requires Inv-loop μ-loop
+row-lowest-requires c κs = search needs
+
+row-width-requires : tie.Need-row-width-requires Inv-loop μ-loop
+row-width-requires c κs = search needs
+
+mul-start : tie.Need-mul-start Inv-loop μ-loop
+mul-start c = search needs
+
+element-copy-out-start : tie.Need-element-copy-out-start Inv-loop μ-loop
+element-copy-out-start c = search needs
+
+add-start : tie.Need-add-start Inv-loop μ-loop
+add-start c = omega (arith, c .before .before .before .before .before .before .before .before .pre .ready .within, c .before .before .before .before .before .before .before .before .pre .inside)
+
+loop-holds : tie.Need-loop-holds Inv-loop μ-loop
+loop-holds c = (visited-start _ _ _ _ _ _, omega arith, λ v. refl)
+
+add-cell : tie.Need-add-cell Inv-loop μ-loop
+add-cell c = omega (arith, within c, visited-length (c .before .loop .inv .0))
+
+mul-held : tie.Need-mul-held Inv-loop μ-loop
+mul-held c = omega (arith, within c, visited-length (c .before .loop .inv .0))
+
+slice-read-held : tie.Need-slice-read-held Inv-loop μ-loop
+slice-read-held c = within (c .before)
+
+held-requires : tie.Need-held-requires Inv-loop μ-loop
+held-requires c κs = search needs
+
+add-fill : tie.Need-add-fill Inv-loop μ-loop
+add-fill c = omega (arith, small (c .before .before .before .before .before))
+
+cast-fill : tie.Need-cast-fill Inv-loop μ-loop
+cast-fill c = omega (arith, small (c .before .before .before .before .before))
+
+fill-requires : tie.Need-fill-requires Inv-loop μ-loop
+fill-requires c κs = (omega (arith, slot-is (c .before .before .before .before .before .before .before .before .before .before), c .before .before .before .before .before .before .before .before .before .before .before .before .count .ensures .1, c .before .before .before .before .before .before .before .before .before .before .before .before .count .ensures .0), within (c .before .before .before .before .before), omega (arith, visited-few (c .before .before .before .before .before .before .loop .inv .0), small (c .before .before .before .before .before)))
+
+add-d : tie.Need-add-d Inv-loop μ-loop
+add-d c = omega (arith, small (c .before .before .before))
+
+loop-less : tie.Need-loop-less Inv-loop μ-loop
+loop-less c = omega arith
+
+loop-again : tie.Need-loop-again Inv-loop μ-loop
+loop-again c =
+    let inside = c .before .before .before in
+    let inv = inside .before .loop .inv in
+    let slot = c .before .before .before .before .before .before .before .before .last .result in (
+      ⊎-elim
+          (λ w. rw (w .6)
+          (rw (w .8)
+          (visited-open (inv .0) (place inside) (c .before .held .ensures) (w .0 .taken) (values-here inside) (w .3 .ensures .0) (w .3 .ensures .1 .1))))
+          (λ w. rw (w .1) (rw (w .3) (visited-kept (inv .0) (place inside) (c .before .held .ensures) (w .0 .left))))
+          (c .if1 .came),
+      omega (arith, inside .loop-test .taken),
+      λ v. ⊎-elim
+          (λ w. ap (λ (e : List ℕ). set e slot v) (w .7 ∙ w .3 .ensures .1 .0) ∙ set-set (inside .before .loop .env) slot _ v ∙ inv .2 v)
+          (λ w. ap (λ (e : List ℕ). set e slot v) (w .2) ∙ inv .2 v)
+          (c .if1 .came),
+    )
+
+same-length : tie.Need-same-length Inv-loop μ-loop
+same-length c = visited-length (c .before .loop .inv .0)
+
+returns : tie.Need-returns Inv-loop μ-loop
+returns c =
+    let wide = wide-is (c .before .before .before) in
+    let v = visited-end (c .before .loop .inv .0) (c .before .loop .inv .1) (c .loop-test .left) wide in
+    (v .0, (rw (slot-is (c .before .before .before .before .before)) at (c .before .loop .inv .2), v .1))
+
+pub row-spec : {M : Type 1} → statement M
+row-spec =
+    tie.close
+    (tie.spec
+    Inv-loop
+    μ-loop
+    add-kinds
+    mul-kinds
+    element-copy-out-kinds
+    count-requires
+    mul-function
+    add-function
+    mul-function-2
+    element-copy-out-function
+    last-requires
+    row-lowest-requires
+    row-width-requires
+    mul-start
+    element-copy-out-start
+    add-start
+    loop-holds
+    add-cell
+    mul-held
+    slice-read-held
+    held-requires
+    add-fill
+    cast-fill
+    fill-requires
+    add-d
+    loop-less
+    loop-again
+    same-length
+    returns)

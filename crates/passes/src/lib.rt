@@ -1,0 +1,189 @@
+// One pass over the table, in arrays. Every function answers for all arguments; what it makes of those that no accepted
+// program gives is said at it.
+mod configurations;
+pub mod setup;
+
+use decoding::functions;
+use decoding::functions::FUNCTIONS;
+use decoding::functions::STRIDE;
+use decoding::functions::WORDS;
+ghost use mathlib.Core.Path.{_≡_};
+ghost use Prim.Native.Nat.{_+_, _-_, _<_, _≤_};
+ghost use lib.ListN.{length, set};
+ghost use Rattle.syntax.specs.Limits.{mostDepth};
+ghost use Rattle.evaluator.specs.{digitBound, evalWord};
+ghost use Rattle.passes.specs.Mirror.{setup, kindsOf, countOf, sizeOf, rowWidth, Ready, RowReady, SameOthers, fits, bodyAt, putIn, oneUnless};
+ghost use Rattle.passes.specs.Mirror.{visitsFrom, storesFrom, passVisits, passCounts, mostConfigurations, cleared};
+
+// One pass over the cells of so many functions: how many outcomes it stored. A function whose cells do not
+// lie within the table is passed over, and so is each from the thirty-third on.
+pub fn pass(
+    words: &[u64; WORDS],
+    trace: &[u8; codes::TRACE_BYTES],
+    functions: &[u64; 96],
+    table: &mut [u16],
+    n: u16,
+    starts: &[u16; 32],
+    count: u8,
+) -> usize
+    ensures cells { λ _. ⌜ now (table .exit) ≡ passVisits (setup (now (words .entry)) (now (functions .entry)) (now (trace .entry))) n (now (starts .entry)) count (now (table .entry)) ⌝ }
+    ensures stored { λ r. ⌜ r ≡ passCounts (setup (now (words .entry)) (now (functions .entry)) (now (trace .entry))) n (now (starts .entry)) count (now (table .entry)) ⌝ }
+{
+    let len = table.len();
+    let last = count as usize;
+    let mut stored: usize = 0;
+    let mut g: usize = 0;
+    while g < last {
+        if lies_within(functions, n, g, len) {
+            let body = body_of(words, starts[g]);
+            stored += pass_function(words, trace, functions, table, n, g, body);
+        }
+        g += 1;
+    }
+    stored
+}
+
+// Whether the cells of a function lie within a table of so many.
+fn lies_within(functions: &[u64; 96], n: u16, g: usize, len: usize) -> bool
+    ensures { λ r. ⌜ r ≡ fits (now (functions .entry)) n g len ⌝ }
+{
+    if (syntax::MOST_FUNCTIONS as usize) <= g {
+        return false;
+    }
+    if trace::MOST_SAMPLES < n as usize {
+        return false;
+    }
+    let first = functions[g];
+    let cells = len as u64;
+    if cells < first {
+        return false;
+    }
+    let count = configurations::count(functions, g);
+    configurations::size(functions[32 + g], count, n) <= cells - first
+}
+
+// The word of the body that starts at a place.
+fn body_of(words: &[u64; WORDS], start: u16) -> u64
+    ensures { λ r. ⌜ r ≡ bodyAt (now (words .entry)) start ⌝ }
+{
+    words[(start % 4096) as usize]
+}
+
+// Visits the configurations of a function in rising order, row by row: how many outcomes were stored.
+fn pass_function(
+    words: &[u64; WORDS],
+    trace: &[u8; codes::TRACE_BYTES],
+    functions: &[u64; 96],
+    table: &mut [u16],
+    n: u16,
+    g: usize,
+    body: u64,
+) -> usize
+    requires { ⌜ Ready (now functions) n g (length (now table)) ⌝ }
+    ensures cells { λ _. ⌜ now (table .exit) ≡ visitsFrom (setup (now (words .entry)) (now (functions .entry)) (now (trace .entry))) n g body 0 (sizeOf (now (functions .entry)) n g) (now (table .entry)) ⌝ }
+    ensures stored { λ r. ⌜ (r ≡ storesFrom (setup (now (words .entry)) (now (functions .entry)) (now (trace .entry))) n g body 0 (sizeOf (now (functions .entry)) n g) (now (table .entry))) × (r ≤ mostConfigurations) ⌝ }
+{
+    let kinds = functions[32 + g];
+    let count = configurations::count(functions, g);
+    let others = configurations::last(count);
+    let rows = configurations::size(kinds, others, n);
+    let width = configurations::row_width(kinds, count, n) as usize;
+    let mut env = [0, 0, 0, 0, n];
+    configurations::values(kinds, others, n, 0, &mut env);
+    let mut stored: usize = 0;
+    let mut base: usize = 0;
+    let mut r: u64 = 0;
+    while r < rows {
+        stored += row(words, trace, functions, table, &mut env, n, g, body, base);
+        configurations::step(kinds, others, n, &mut env);
+        base += width;
+        r += 1;
+    }
+    stored
+}
+
+// Visits the configurations of a row, from one on: how many outcomes were stored. `env` has the values of the
+// other parameters; that of the last is put in at undecided cells. A decided cell costs a load and two tests.
+fn row(
+    words: &[u64; WORDS],
+    trace: &[u8; codes::TRACE_BYTES],
+    functions: &[u64; 96],
+    table: &mut [u16],
+    env: &mut [u16; 5],
+    n: u16,
+    g: usize,
+    body: u64,
+    base: usize,
+) -> usize
+    requires { ⌜ RowReady (now functions) n g (length (now table)) base (now env) ⌝ }
+    ensures cells { λ _. ⌜ now (table .exit) ≡ visitsFrom (setup (now (words .entry)) (now (functions .entry)) (now (trace .entry))) n g body base (rowWidth (kindsOf (now (functions .entry)) g) n (countOf (now (functions .entry)) g)) (now (table .entry)) ⌝ }
+    ensures env { λ _. ⌜ SameOthers (countOf (now (functions .entry)) g - 1) (now (env .entry)) (now (env .exit)) ⌝ }
+    ensures stored { λ r. ⌜ r ≡ storesFrom (setup (now (words .entry)) (now (functions .entry)) (now (trace .entry))) n g body base (rowWidth (kindsOf (now (functions .entry)) g) n (countOf (now (functions .entry)) g)) (now (table .entry)) ⌝ }
+{
+    let kinds = functions[32 + g];
+    let count = configurations::count(functions, g);
+    let function = words[FUNCTIONS + STRIDE * g];
+    let slot = configurations::last(count) as usize;
+    let lowest = configurations::row_lowest(kinds, count);
+    let width = configurations::row_width(kinds, count, n);
+    let start = functions[g] + base as u64;
+    let mut stored: usize = 0;
+    let mut d: u64 = 0;
+    while d < width {
+        let cell = (start + d) as usize;
+        if functions::held(function, table[cell]) == codes::UNDECIDED {
+            stored = fill(
+                words,
+                trace,
+                table,
+                env,
+                body,
+                slot,
+                (lowest + d) as u16,
+                cell,
+                stored,
+            );
+        }
+        d += 1;
+    }
+    stored
+}
+
+// Puts a value in, takes the body on the values and stores what is decided in a cell: how many outcomes are then
+// stored, if so many were.
+fn fill(
+    words: &[u64; WORDS],
+    trace: &[u8; codes::TRACE_BYTES],
+    table: &mut [u16],
+    env: &mut [u16; 5],
+    body: u64,
+    slot: usize,
+    value: u16,
+    cell: usize,
+    stored: usize,
+) -> usize
+    requires { ⌜ (slot < 5) × (cell < length (now table)) × (stored < digitBound) ⌝ }
+    ensures cells { λ _. ⌜ now (table .exit) ≡ putIn (now (table .entry)) cell (evalWord (now (words .entry)) (now (trace .entry)) (now (table .entry)) (set (now (env .entry)) slot value) mostDepth body) ⌝ }
+    ensures env { λ _. ⌜ now (env .exit) ≡ set (now (env .entry)) slot value ⌝ }
+    ensures stored { λ r. ⌜ r ≡ stored + oneUnless (evalWord (now (words .entry)) (now (trace .entry)) (now (table .entry)) (set (now (env .entry)) slot value) mostDepth body) ⌝ }
+{
+    env[slot] = value;
+    let outcome = bodies::outcome(words, trace, table, env, body);
+    if outcome == codes::UNDECIDED {
+        return stored;
+    }
+    table[cell] = outcome;
+    stored + 1
+}
+
+// Makes the first so many cells undecided, as many of them as there are.
+pub fn clear(table: &mut [u16], needed: usize)
+    ensures { λ _. ⌜ now (table .exit) ≡ cleared needed (now (table .entry)) ⌝ }
+{
+    let last = codes::smaller(needed, table.len());
+    let mut i = 0;
+    while i < last {
+        table[i] = codes::UNDECIDED;
+        i += 1;
+    }
+}
