@@ -1,5 +1,5 @@
-// The least table that the passes of a program reach. It answers for all arguments; for those that no accepted program gives it
-// makes as many passes as there can be at most.
+// The least table that the passes of a program reach. It answers for all arguments: whatever they are, it ends at the latest after
+// one pass more than there can be cells.
 use decoding::functions::WORDS;
 ghost use mathlib.Core.Path.{_≡_};
 ghost use Rattle.passes.specs.Mirror.{setup};
