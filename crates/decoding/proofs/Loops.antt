@@ -2,12 +2,12 @@
 --   after-more, after-whole                                the operands of a node, passed one after the other
 --   Swept, swept-start, swept-more, swept-whole            the words and the ends, from the last place down
 --   Entered, entered-start, entered-more, entered-whole    the words of functions
-use mathlib.Core.Path.{_≡_, refl, sym, ap, _∙_}
+use mathlib.Core.Path.{_≡_, refl}
 use mathlib.Core.List.{List}
 use Prim.Native.Nat.{ℕ, zero, suc, _+_, _-_, _<_, _≤_}
 use native.Mathlib.Numerals.{add-one, sub-one}
 use native.Mathlib.Omega.{arith}
-use lib.ListN.{length, getD, set, replicate}
+use lib.ListN.{getD, set, replicate}
 use Rattle.syntax.specs.declared.Node.{Node}
 use Rattle.syntax.specs.Limits.{mostBytes}
 use Rattle.syntax.specs.Bytes.{nodeOf}

@@ -4,9 +4,9 @@
 --   place-0 to place-3                                    its places, as a call goes through them
 --   first-in, held-in                                     a function's first cell, and what a cell of it holds
 --   values-in, lowest-in                                  a parameter's values
-use Prim.Native.Nat.{ℕ, _+_, _*_, _/_, _%_, _≤_}
+use Prim.Native.Nat.{ℕ, _/_, _%_, _≤_}
 use native.Mathlib.Omega.{arith}
-use mathlib.Core.Path.{_≡_, ap}
+use mathlib.Core.Path.{_≡_}
 use mathlib.Core.Bool.{Bool, true, false}
 use Rattle.trace.specs.{mostSamples}
 use Rattle.codes.specs.{leastCode, mostCode, decidedCode, radixOf, lowestCode}

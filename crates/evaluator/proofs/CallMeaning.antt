@@ -13,7 +13,7 @@ use mathlib.Core.List.{List, [], _∷_}
 use mathlib.Core.Option.{Option, none, some}
 use lib.ListN.{length, getElem?, getD}
 use lib.Dec as dec
-use Rattle.trace.specs.{bitOf, mostSamples}
+use Rattle.trace.specs.{bitOf}
 use Rattle.semantics.specs.declared.Error.the-variants.{Head, Tail}
 use Rattle.semantics.specs.declared.Outcome.{Outcome}
 use Rattle.semantics.specs.declared.Outcome.the-variants.{Truth, Suffix, Failed}
@@ -35,7 +35,7 @@ use Rattle.codes.proofs.CodeMeaning.{OfKind, radix-means, value-own, value-digi
 use Rattle.decoding.specs.Words.{firstIn, valuesIn, lowestIn, kindWord}
 use Rattle.decoding.proofs.Packing.{values-in, lowest-in}
 use Rattle.evaluator.specs.{bound, functionAt, paramAt, nextIndex, lookupBy, argsIn}
-use Rattle.evaluator.proofs.Sets.{firstCell, Sets}
+use Rattle.evaluator.proofs.Sets.{Sets}
 use Rattle.evaluator.proofs.CellMeaning.{first-cell, first-within, held-means, first-is}
 
 -- ---- The look-up

@@ -1,6 +1,6 @@
 -- The evaluation of the words of an expression, by places and numbers, comes to what the rules say of it:
 --   eval-means       the number of what the body of a function, or a part of it, gives
-use Prim.Native.Nat.{ℕ, zero, suc, _+_, _/_, _%_, _≤_, _<_}
+use Prim.Native.Nat.{ℕ, zero, suc, _+_, _/_, _≤_, _<_}
 use native.Mathlib.Omega.{arith}
 use mathlib.Core.Path.{_≡_, refl, ap, _∙_}
 use mathlib.Core.Bool.{true, false}
@@ -17,7 +17,7 @@ use Rattle.semantics.specs.Visits.{Table, lookup}
 use Rattle.semantics.proofs.Bodies.{kinded}
 use Rattle.semantics.proofs.Visits.{lookup-kinds}
 use Rattle.syntax.specs.declared.Node.{Node}
-use Rattle.syntax.specs.Limits.{mostParams, mostBytes}
+use Rattle.syntax.specs.Limits.{mostParams}
 use Rattle.rule.specs.Form.{encodeExpr, encodeArgs, kindsByte, depth, depthAll}
 use Rattle.syntax.specs.Bytes.{nodeOf}
 use Rattle.rule.specs.Outline.{outlineOf}

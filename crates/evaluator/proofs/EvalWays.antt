@@ -13,15 +13,15 @@ use mathlib.Core.Path.{_≡_, refl, sym, ap, _∙_}
 use mathlib.Core.Bool.{Bool, true, false, cond}
 use mathlib.Core.List.{List}
 use Prim.Native.Nat.{ℕ, zero, suc, _+_, _-_, _*_, _/_, _%_, _^_, _<_, _≤_}
-use native.Mathlib.Nat.{mul-le-mul, mod-eq-of-lt}
+use native.Mathlib.Nat.{mod-eq-of-lt}
 use native.Mathlib.Numerals.{sub-one}
 use native.Mathlib.Omega.{arith}
 use lib.Dec.{leb, ltb, eqb}
 use lib.ListN.{length, getD, List·getD-eq-default}
-use borrow.Author.Tests.{lt-ltb, le-ltb, le-leb, lt-leb, ltb-true, ltb-false, leb-true, leb-false, eq-eqb, ne-eqb}
+use borrow.Author.Tests.{le-leb, lt-leb, ltb-true, ltb-false, eq-eqb, ne-eqb}
 use Rattle.codes.specs.{foreign}
 use Rattle.decoding.specs.Words.{sortOf, secondPlace, thirdPlace, functionsFrom, stride, firstIn, heldIn, leastIn, mostIn, valuesIn, lowestIn}
-use Rattle.evaluator.specs.{functionAt, paramAt, bound, digitBound, mostIndex, nextIndex, Digit, lookupBy, argsIn, branchBy, sortBy, evalWord, evalAt, branchAt, callAt, callOneAt}
+use Rattle.evaluator.specs.{functionAt, paramAt, digitBound, mostIndex, nextIndex, Digit, lookupBy, argsIn, sortBy, evalWord, evalAt, branchAt}
 
 -- a number that is none of the first so many
 abbrev pub Apart : ℕ → ℕ → Type 0

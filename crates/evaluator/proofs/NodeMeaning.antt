@@ -19,10 +19,10 @@ use Rattle.semantics.specs.Cells.{falseCode, trueCode}
 use Rattle.codes.specs.{tailOf, nullOf}
 use Rattle.rule.proofs.NodeBytes.{opNode}
 use Rattle.decoding.specs.Words.{paramSort, headSort, tailSort, nullSort, headParamSort, tailParamSort, nullParamSort, ifSort, ifParamSort, ifNullSort, ifHeadSort, callSort, callOneSort}
-use Rattle.decoding.specs.Words.{packed, sortOf, paramOf, calleeOf, countOf, placesOf, firstPlace, secondPlace, thirdPlace}
+use Rattle.decoding.specs.Words.{packed, sortOf, paramOf, calleeOf, countOf, placesOf, firstPlace, thirdPlace}
 use Rattle.decoding.specs.Decoding.{endAt, constantBy, unaryBy, conditionalBy, placed, calledBy, decodedBy}
 use Rattle.decoding.proofs.Packing.{sort-packed, param-packed, callee-packed, count-packed, first-packed, second-packed, third-packed, place-0, place-1, place-2, place-3}
-use Rattle.evaluator.specs.{paramIn, headIn, branchBy, callBy, argsIn, sortBy, evalWord, evalAt}
+use Rattle.evaluator.specs.{paramIn, headIn, branchBy, argsIn, sortBy, evalWord, evalAt}
 
 -- ---- Places in a word
 

@@ -16,7 +16,7 @@ use lib.Seq.{take-length, getD-set-same, getD-set-other}
 use Rattle.trace.specs.{bitOf}
 use Rattle.semantics.specs.Language.{Kind, truth, list, Function, Program, Trace}
 use Rattle.semantics.specs.Numbering.{kindSize, size, cells}
-use Rattle.syntax.specs.Limits.{mostFunctions, mostParams}
+use Rattle.syntax.specs.Limits.{mostParams}
 use Rattle.rule.specs.Form.{kindsByte, Accepted}
 use Rattle.rule.specs.Reading.{kindAt, kindsFrom}
 use Rattle.rule.specs.Outline.{outlineOf}

@@ -11,7 +11,7 @@ use native.Mathlib.Nat.{mod-lt, mod-eq-of-lt, zero-add, div-one, div-div-eq-div-
 use native.Mathlib.Omega.{arith}
 use lib.Arith.{digits-div, digits-mod, mod-mul}
 use lib.ListN.{length, getElem?, getD, set, drop, length-set}
-use lib.Seq.{append-snoc, getD-set-other}
+use lib.Seq.{append-snoc}
 use Rattle.trace.specs.{bitOf, mostSamples}
 use Rattle.semantics.specs.Language.{Kind, truth, list, isList, Trace, Value, given}
 use Rattle.semantics.specs.Numbering.{kindSize, valueAt, size, valuesAt}

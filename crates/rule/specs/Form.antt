@@ -1,14 +1,14 @@
 -- 'Program bytes' of document 01: the bytes of a program, which bytes are accepted.
 use Prim.Native.Nat.{ℕ, suc, _+_, _-_, _<_, _≤_, max}
 use mathlib.Core.Path.{_≡_}
-use mathlib.Core.Bool.{Bool, true, false}
+use mathlib.Core.Bool.{true, false}
 use mathlib.Core.List.{List, [], _∷_, _++_, map}
 use mathlib.Core.Option.{some}
 use lib.ListN.{length, getElem?, getD, replicate}
 use Rattle.trace.specs.{binary}
 use Rattle.encoding.specs.{lowFirst}
 use Rattle.syntax.specs.Limits.{mostFunctions, mostParams, mostBody, mostDepth, mostBytes}
-use Rattle.semantics.specs.Language.{Kind, truth, list, isList, Op, hd, tl, null, Expr, constant, empty, param, op, ifte, call, Args, noArgs, arg, Function, Program, IsMain, WellKinded}
+use Rattle.semantics.specs.Language.{Kind, isList, Op, hd, tl, null, Expr, constant, empty, param, op, ifte, call, Args, noArgs, arg, Function, Program, IsMain, WellKinded}
 
 -- a list of bytes
 abbrev pub AreBytes : List ℕ → Type 0

@@ -2,11 +2,11 @@
 -- that applies. 'In 7 to 9 the first function at fault decides; in 12 to 17 the first function, and in it the
 -- first byte'; at one byte the lowest number.
 use Prim.Native.Nat.{ℕ, zero, suc}
-use mathlib.Core.Bool.{Bool, true, false, not, _&&_, _||_, cond}
+use mathlib.Core.Bool.{Bool, true, false, not, _||_, cond}
 use mathlib.Core.List.{List, [], _∷_, map}
 use mathlib.Core.Option.{Option, none, some}
 use lib.ListN.{length, getElem?, getD, take, drop}
-use lib.Dec.{ltb, leb, eqb}
+use lib.Dec.{ltb, eqb}
 use Rattle.refusal.specs.declared.Refusal.{Refusal}
 use Rattle.refusal.specs.declared.Refusal.the-variants.{ProgramLength, FunctionCount, BytesAfterFunctions, MainKind, BodyEnds, TooDeep, ListConstructor, UnknownByte, WrongKind, BytesAfterExpression}
 use Rattle.refusal.specs.declared.Check.{Check}

@@ -8,7 +8,6 @@ use Rattle.refusal.specs.declared.Refusal.the-variants.{HeaderCut, ParameterKin
 use Rattle.encoding.specs.{fromLow}
 use Rattle.syntax.specs.declared.Node.{Node}
 use Rattle.syntax.specs.declared.Node.the-variants as node
-use Rattle.syntax.specs.declared.Header.{Header}
 use Rattle.syntax.specs.declared.HeaderRead.{HeaderRead}
 use Rattle.syntax.specs.declared.HeaderRead.the-variants.{Found, Refused}
 use Rattle.syntax.specs.Limits.{mostParams, mostBody}

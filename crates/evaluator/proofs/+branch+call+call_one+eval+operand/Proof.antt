@@ -39,7 +39,6 @@ use Rattle.evaluator.proofs.+branch+call+call_one+eval+operand.Tie.{clo
 use Prim.Native.Nat.{_+_, _-_, _*_}
 use mathlib.Core.Path.{_≡_, sym, ap, _∙_}
 use native.Mathlib.Omega.{arith}
-use lib.ListN.{getD}
 use borrow.Author.Needs.{needs}
 use Rattle.decoding.specs.Words.{calleeOf, placesOf}
 use Rattle.evaluator.specs.{sortBy, evalWord, evalAt, branchAt, callAt, callOneAt}

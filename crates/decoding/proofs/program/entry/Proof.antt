@@ -1,5 +1,4 @@
 -- `entry` meets its contract, by its two cases.
-use mathlib.Core.Path.{sym}
 use borrow.Author.Tests.{eq-eqb, ne-eqb}
 use Rattle.decoding.specs.Decoding.{entryOf}
 use borrow.Author.Needs.{needs}

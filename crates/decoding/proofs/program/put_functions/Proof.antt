@@ -1,6 +1,5 @@
 -- `put_functions` meets its contract. Before each turn the first k words are written.
-use mathlib.Core.Path.{_≡_}
-use Prim.Native.Nat.{_-_, _≤_, _*_}
+use Prim.Native.Nat.{_-_, _≤_}
 use native.Mathlib.Omega.{arith}
 use borrow.Author.Needs.{needs}
 use Rattle.decoding.proofs.Loops.{Entered, entered-start, entered-more, entered-whole}

@@ -1,6 +1,5 @@
 -- `put_nodes` meets its contract. Before each turn the places from `at` on have their words and ends.
 use mathlib.Core.Path.{refl}
-use Prim.Native.Nat.{_≤_}
 use native.Mathlib.Omega.{arith}
 use borrow.Author.Needs.{needs}
 use Rattle.decoding.proofs.Loops.{Swept, swept-start, swept-more, swept-whole}
