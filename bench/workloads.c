@@ -35,6 +35,7 @@ static const uint8_t bools[] = {
 
 /* ---- Traces, records, archives */
 
+/* Of 4,095 samples each. */
 static uint8_t ones[512], mixed[512];
 
 static void fill_traces(void)
@@ -43,6 +44,7 @@ static void fill_traces(void)
     memset(ones, 255, sizeof ones);
     for (unsigned i = 0; i < sizeof mixed; i++)
         mixed[i] = random_below(&seed, 256);
+    ones[511] &= 127, mixed[511] &= 127;
 }
 
 /* A program with the number of samples on which it is recorded. */
@@ -55,9 +57,13 @@ struct task {
 static size_t record(struct task t, uint16_t *table, uint8_t *out, size_t len)
 {
     static const uint8_t label[8] = {'s', 'i', 't', 'e', ' ', '1', 0, 0};
+    uint8_t trace[sizeof mixed];
     uint64_t answer[3];
-    uint32_t number = sik_write_record(t.program.at, t.program.len, mixed, (t.n + 7) / 8, t.n, label, table,
-                                       CELLS_LENT, out, len, answer);
+    uint32_t number;
+    memcpy(trace, mixed, sizeof mixed);
+    trace[t.n / 8] &= (1 << t.n % 8) - 1; /* no bit above the last sample */
+    number = sik_write_record(t.program.at, t.program.len, trace, (t.n + 7) / 8, t.n, label, table, CELLS_LENT, out, len,
+                              answer);
     if (number) {
         fprintf(stderr, "a record is refused by %u\n", (unsigned)number);
         exit(1);

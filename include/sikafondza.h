@@ -18,9 +18,9 @@
 #include <stddef.h>
 #include <stdint.h>
 
-/* The version of the library, as numbers and as a text such as "1.0.0". */
+/* The version of the library, as numbers and as a text such as "1.1.0". */
 #define SIK_VERSION_MAJOR 1
-#define SIK_VERSION_MINOR 0
+#define SIK_VERSION_MINOR 1
 #define SIK_VERSION_PATCH 0
 #define SIK_VERSION \
     SIK_VERSION_TEXT(SIK_VERSION_MAJOR) "." SIK_VERSION_TEXT(SIK_VERSION_MINOR) "." SIK_VERSION_TEXT(SIK_VERSION_PATCH)
@@ -40,8 +40,9 @@ enum {
     SIK_TAIL = 4     /* tail of empty */
 };
 
-/* Refusals. The number answered is that of the first that applies, in the order of this list, among those that the
- * function can meet. Of a program with several faults, in 7 to 9 the first function at fault decides; in 12 to 17 the
+/* Refusals. The number answered is that of the first that applies, among those that the function can meet: in the order
+ * of this list, but 23 directly after 3 of a record, and directly after 20 of a lent trace. The list of refusals above each
+ * function has its order. Of a program with several faults, in 7 to 9 the first function at fault decides; in 12 to 17 the
  * first function, and in it the first byte, whatever the numbers of the later ones. So the program
  * 02 01 01 01 00 10 00 00 01 00 24 is refused with 16, for the list in the body of function 0, and not with 14, for the
  * 0x24 in that of function 1.
@@ -71,7 +72,9 @@ enum {
     SIK_REFUSED_RING_STATE = 19,             /* the ring's next place is not below its length, or its count is above it */
     SIK_REFUSED_TRACE_LENGTH = 20,           /* n is above 4,095, or the trace has not n / 8 rounded up bytes */
     SIK_REFUSED_TABLE_SHORT = 21,            /* the cells needed exceed the lent table or 16,777,216 */
-    SIK_REFUSED_OUTPUT_SHORT = 22            /* the output is shorter than what is to be written */
+    SIK_REFUSED_OUTPUT_SHORT = 22,           /* the output is shorter than what is to be written */
+    SIK_REFUSED_DEAD_BITS = 23               /* a bit above the last sample is set, in the last byte of a trace; where n is
+                                                a multiple of 8 there is none */
 };
 
 /* The state of a ring; both numbers are 0 for a new ring. */
@@ -114,14 +117,14 @@ enum {
 
 /* Evaluates a rule program on a packed trace of n samples.
  *   program        the rule
- *   trace          n / 8 rounded up bytes, packed as above; bits above the last sample are passed over
+ *   trace          n / 8 rounded up bytes, packed as above, bits above the last sample 0; sik_ring_trace writes such a trace
  *   table          where it works: one cell for each configuration of the program's functions, which is a function
  *                  with a value for each parameter (2 values for a Bool, n + 1 for a list; a function without
  *                  parameters has one configuration). What it held does not matter. It is left with the outcomes:
  *                  0 undecided, 1 False, 2 True, 3 head of empty, 4 tail of empty, 5 + k a suffix of length k; cells
  *                  beyond those needed keep their content
  *   answer         becomes the verdict and the pass count
- * Refusals: 5 to 17, 20, 21.
+ * Refusals: 5 to 17, 20, 23, 21.
  */
 uint32_t sik_evaluate(const uint8_t *program, size_t program_len, const uint8_t *trace, size_t trace_len, uint64_t n,
                       uint16_t *table, size_t table_len, uint64_t answer[SIK_EVALUATED_SIZE]);
@@ -135,13 +138,13 @@ enum {
 };
 
 /* Evaluates as sik_evaluate does, and writes a record of it to the front of out: program, trace, label, verdict,
- * pass count, trailer (docs/FORMAT.md). Bits above the last sample are written 0. Bytes past the record keep their
+ * pass count, trailer (docs/FORMAT.md). The trace's bytes are written as they are. Bytes past the record keep their
  * content. To append to an archive, lend the bytes after its last.
  *   program, trace, n, table   as for sik_evaluate
  *   label                      the site's label, eight bytes; zeros if unset
  *   out                        at least program_len + n / 8 rounded up + 21 bytes
  *   answer                     becomes the record's length, the verdict and the pass count
- * Refusals: 5 to 17, 20 to 22. On 22 too the table is as it was.
+ * Refusals: 5 to 17, 20, 23, 21, 22. On 22 too the table is as it was.
  */
 uint32_t sik_write_record(const uint8_t *program, size_t program_len, const uint8_t *trace, size_t trace_len, uint64_t n,
                           const uint8_t label[8], uint16_t *table, size_t table_len, uint8_t *out, size_t out_len,
@@ -164,7 +167,7 @@ enum {
 /* Reads the record that the bytes end in, from the last byte backwards; bytes before it do not matter. The stored
  * verdict is only read, not worked out again.
  *   parts      becomes the record's parts
- * Refusals: 1 to 17.
+ * Refusals: 1 to 3, 23, 4 to 17.
  */
 uint32_t sik_read_record(const uint8_t *bytes, size_t bytes_len, uint64_t parts[SIK_PARTS_SIZE]);
 
@@ -181,7 +184,7 @@ enum { SIK_DIFFERS = 0, SIK_AGREES = 1 };
  *   bytes      as for sik_read_record
  *   table      as for sik_evaluate, left with the cells worked out, also where the record differs
  *   answer     becomes the agreement
- * Refusals: 1 to 17, 21.
+ * Refusals: 1 to 3, 23, 4 to 17, 21.
  */
 uint32_t sik_check_record(const uint8_t *bytes, size_t bytes_len, uint16_t *table, size_t table_len,
                           uint64_t answer[SIK_CHECKED_SIZE]);

@@ -1,4 +1,5 @@
-//! Compares the library, called through its C interface, with a second implementation of document 01.
+//! Compares the library, called through its C interface, with a second implementation of document 01 and of
+//! request 01 of document 02.
 //!
 //! Random and damaged programs, traces, tables, rings, records and archives are handed to both. The
 //! number answered, every answer and all of the lent memory must be the same, and the input must stay
@@ -27,11 +28,11 @@
 //! - `--loud`: names each round and kind before it is run, to find one that does not return.
 //!
 //! A difference is printed with its seed, its round and the case in hexadecimal, and the exit status is 1.
-//! The status is 1 also where all kinds are run for 1,000 rounds or more and a number from 1 to 22 is
+//! The status is 1 also where all kinds are run for 1,000 rounds or more and a number from 1 to 23 is
 //! never answered, and where the rounds are so many that all was tried (some 5,700) and something that `met`
 //! counts was never met.
 //!
-//! Not covered: document 02, buffers that overlap, null pointers with a length other than 0, pass counts
+//! Not covered: buffers that overlap, null pointers with a length other than 0, pass counts
 //! above some thousands, more than one evaluation with 16,777,216 cells (none with `--exact`), and the
 //! exit status of the listing executable.
 

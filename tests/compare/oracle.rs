@@ -1,4 +1,4 @@
-//! A second implementation of document 01, used as the oracle.
+//! A second implementation of document 01 and of request 01 of document 02, used as the oracle.
 //!
 //! Each operation works on copies of the lent memory and leaves them as the library must leave its own.
 
@@ -38,14 +38,14 @@ pub fn evaluate(
     table: &mut [u16],
 ) -> Result<Evaluation, u32> {
     let functions = program::check(program)?;
-    let samples = trace::unpack(bytes, n).ok_or(20u32)?;
+    let samples = trace::lent(bytes, n)?;
     fill(&functions, &samples, table)
 }
 
 /// A single pass over a table as it is: how many outcomes it stored.
 pub fn make_pass(program: &[u8], bytes: &[u8], n: u64, table: &mut [u16]) -> Result<u64, u32> {
     let functions = program::check(program)?;
-    let samples = trace::unpack(bytes, n).ok_or(20u32)?;
+    let samples = trace::lent(bytes, n)?;
     let needed = search::cells_needed(&functions, samples.len());
     if needed > MOST_CELLS || needed > table.len() as u64 {
         return Err(21);
@@ -56,7 +56,7 @@ pub fn make_pass(program: &[u8], bytes: &[u8], n: u64, table: &mut [u16]) -> Res
 /// The verdict and the pass count by passes alone, for a program and a trace that are accepted.
 pub fn by_passes(program: &[u8], bytes: &[u8], n: u64, cells: &mut [u16]) -> Option<(u8, u32)> {
     let functions = program::check(program).ok()?;
-    let samples = trace::unpack(bytes, n)?;
+    let samples = trace::lent(bytes, n).ok()?;
     let passes = pass::all(&functions, &samples, cells);
     Some((cells[samples.len()] as u8, passes))
 }

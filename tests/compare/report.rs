@@ -6,7 +6,7 @@ use super::met::Met;
 use super::oracle::search::Evaluation;
 
 /// The largest refusal number.
-const LAST_NUMBER: u32 = 22;
+const LAST_NUMBER: u32 = 23;
 
 #[derive(Default)]
 pub struct Report {

@@ -1,4 +1,4 @@
--- 'Evaluating' of document 01: its answer and what it leaves in the table. Its refusals (5 to 17, 20, 21) are those of crate prepare.
+-- 'Evaluating' of document 01: its answer and what it leaves in the table. Its refusals (5 to 17, 20, 23, 21) are those of crate prepare.
 use Prim.Native.Nat.{ℕ}
 use mathlib.Core.Path.{_≡_}
 use mathlib.Core.List.{List, [], _∷_}
@@ -42,11 +42,11 @@ abbrev pub evaluatedAnswer : Evaluated → Answer
 evaluatedAnswer (evaluated.Verdict v) = answered (verdictValues v)
 evaluatedAnswer (evaluated.Refused f) = refusedAs f
 
--- Demand 3: for the program that the bytes are accepted as, a trace that 20 leaves and a table that 21 leaves, a verdict is
+-- Demand 3: for the program that the bytes are accepted as, a trace that 20 and 23 leave and a table that 21 leaves, a verdict is
 -- told, and it and the table are what they should be
 abbrev pub Demand3 : List ℕ → List ℕ → ℕ → ℕ → (Verdict → Type 0) → List ℕ → Type 0
 Demand3 program trace n lent Told table =
-    (P : Program) → Accepted program P → traceCheck n (length trace) ≡ check.Passed → tableCheck (cells (samples trace n) P) lent ≡ check.Passed
+    (P : Program) → Accepted program P → traceCheck trace n ≡ check.Passed → tableCheck (cells (samples trace n) P) lent ≡ check.Passed
     → (v : Verdict) × Told v × Decides P (samples trace n) v table
 
 -- ---- A single pass over a table with any content

@@ -119,7 +119,7 @@ fn answer_with(evaluated: Evaluated, answer: &mut [u64; 2]) -> u32
 }
 
 // Reads the record that the bytes end in: 0, with its parts as numbers in `parts`; or the number of the
-// refusal, 1 to 17, with `parts` as they were.
+// refusal, 1 to 3, 23 or 4 to 17, with `parts` as they were.
 #[no_mangle]
 pub extern "C" fn sik_read_record(bytes: &[u8], parts: &mut [u64; 9]) -> u32
     ensures number { λ r. ⌜ r ≡ readAnswer (reading (now (bytes .entry))) .number ⌝ }

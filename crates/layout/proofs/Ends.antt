@@ -1,18 +1,22 @@
 -- Bytes whose trailer passes its checks end in the layout of what they hold:
 --   contents-stated        with an accepted program, a record can hold that
---   ends-whole             the bytes are those before the program, and the layout
+--   from-program           from the program's first byte on the bytes are the layout
+--   ends-whole             so they are those before the program, and the layout
 use mathlib.Core.Path.{_≡_, refl, sym, ap, _∙_}
 use mathlib.Core.List.{List, [], _∷_, _++_}
 use Prim.Native.Nat.{ℕ, _+_, _-_, _^_, _<_, _≤_}
 use native.Mathlib.Omega.{arith}
 use lib.ListN.{length, take, drop, take-append-drop, drop-of-length-le}
 use Rattle.refusal.specs.declared.Check.the-variants.{Passed}
+use Rattle.trace.specs.{pack}
+use Rattle.trace.proofs.Packing.{length-samples}
+use Rattle.trace.proofs.Dead.{clean-packed}
 use Rattle.rule.specs.Form.{AreBytes}
 use Rattle.rule.specs.Reading.{programCheck}
 use Rattle.rule.proofs.Programs.{passed-accepted}
 use Rattle.encoding.specs.{lowFirst}
 use Rattle.layout.specs.Form.{Contents, format, mark, labelBytes, afterTrace, trailerBytes, traceDistance, programDistance, trailer, layout, Stated}
-use Rattle.layout.specs.Trailer.{trailerAt, programDistanceIn, traceDistanceIn, samplesIn, formatIn, markIn, verdictIn, passesIn, partsIn, contentsIn}
+use Rattle.layout.specs.Trailer.{partOf, traceSpan, trailerAt, programDistanceIn, traceDistanceIn, samplesIn, formatIn, markIn, verdictIn, passesIn, partsIn, contentsIn}
 use Rattle.layout.proofs.Fields.{Fields}
 use Rattle.layout.proofs.Places.{split, split-byte, split-number, length-part, bytes-part, number-below}
 
@@ -39,9 +43,17 @@ module _ (bytes : List ℕ) (are : AreBytes bytes) (f : Fields bytes) where
   unfolding partsIn
   length-program = length-part bytes _ _ (omega (arith, distances))
 
-  length-trace : length (C .trace) ≡ second - afterTrace
-  unfolding partsIn
+  length-trace : length (partOf bytes (traceSpan bytes)) ≡ second - afterTrace
   length-trace = length-part bytes _ _ (omega (arith, distances))
+
+  count : length (C .samples) ≡ samplesIn bytes
+  unfolding partsIn
+  count = length-samples (partOf bytes (traceSpan bytes)) (samplesIn bytes)
+
+  -- the trace's bytes are those of its samples
+  trace-packed : partOf bytes (traceSpan bytes) ≡ pack (C .samples)
+  unfolding partsIn
+  trace-packed = clean-packed (partOf bytes (traceSpan bytes)) (samplesIn bytes) (bytes-part bytes are _ _) (omega (arith, length-trace, f .second)) (f .clean)
 
   length-label : length (C .label) ≡ labelBytes
   unfolding partsIn
@@ -60,8 +72,7 @@ module _ (bytes : List ℕ) (are : AreBytes bytes) (f : Fields bytes) where
   contents-stated p =
       record {
         program = passed-accepted (C .program) bytes-program p;
-        few = f .few;
-        packed = omega (arith, length-trace, f .second);
+        few = rw count (f .few);
         label = length-label;
         verdict = f .verdict;
         some = f .some;
@@ -94,22 +105,36 @@ module _ (bytes : List ℕ) (are : AreBytes bytes) (f : Fields bytes) where
   from-trailer : drop place bytes ≡ trailer C
   unfolding partsIn
   from-trailer =
-      let to-program : first ≡ programDistance C = omega (arith, distances, length-program, length-trace) in
-      let to-trace : second ≡ traceDistance C = omega (arith, distances, length-trace) in
-      rw (← to-program, ← to-trace) from-fields
+      let size : length (pack (C .samples)) ≡ second - afterTrace = rw trace-packed at length-trace in
+      let to-program : first ≡ programDistance C = omega (arith, distances, length-program, size) in
+      let to-trace : second ≡ traceDistance C = omega (arith, distances, size) in
+      rw (← to-program, ← to-trace, count) from-fields
 
-  from-program : drop (place - first) bytes ≡ layout C
-  unfolding layout verdictIn passesIn partsIn
-  from-program =
+  from-label : drop (place - afterTrace) bytes ≡ C .label ++ (C .verdict ∷ lowFirst 4 (C .passes) ++ trailer C)
+  unfolding verdictIn passesIn partsIn
+  from-label =
       rw (
-        split bytes (place - first) (first - second) {next = place - second} (omega (arith, distances)),
-        split bytes (place - second) (second - afterTrace) {next = place - afterTrace} (omega (arith, distances)),
         split bytes (place - afterTrace) labelBytes {next = place - 5} (omega (arith, distances)),
         split-byte bytes (place - 5) {next = place - 4} (omega (arith, distances)) (omega (arith, distances)),
         split-number bytes are 4 (place - 4) {next = place} (omega (arith, distances)) (omega (arith, distances)),
         from-trailer,
       )
 
+  from-trace : drop (place - second) bytes ≡ pack (C .samples) ++ drop (place - afterTrace) bytes
+  from-trace =
+      split bytes (place - second) (second - afterTrace) {next = place - afterTrace} (omega (arith, distances))
+      ∙ ap (λ (l : List ℕ). l ++ drop (place - afterTrace) bytes) trace-packed
+
+  pub from-program : drop (partsIn bytes .program .start) bytes ≡ layout C
+  unfolding layout partsIn
+  from-program =
+      rw (
+        split bytes (place - first) (first - second) {next = place - second} (omega (arith, distances)),
+        from-trace,
+        from-label,
+      )
+
   pub ends-whole : bytes ≡ take (partsIn bytes .program .start) bytes ++ layout C
-  unfolding partsIn
-  ends-whole = sym (take-append-drop (place - first) bytes) ∙ ap (λ (l : List ℕ). take (place - first) bytes ++ l) from-program
+  ends-whole =
+      let start = partsIn bytes .program .start in
+      sym (take-append-drop start bytes) ∙ ap (λ (l : List ℕ). take start bytes ++ l) from-program

@@ -1,5 +1,5 @@
--- Refusals 1 to 4, of the trailer and of what stands before it:
---   Fields                             what 1 to 4 leave
+-- Refusals 1 to 4 and 23, of the trailer and of what stands before it:
+--   Fields                             what they leave
 --   Sound, fields-sound                what 3 leaves
 --   passed-fields, fields-passed       the check passes exactly where that holds
 use mathlib.Core.Path.{_≡_}
@@ -13,11 +13,11 @@ use borrow.Author.Tests.{ltb-false, leb-false, eqb-true, eqb-false, not-false, l
 use Rattle.refusal.specs.declared.Check.the-variants.{Passed}
 use Rattle.refusal.proofs.Checks.{then-passed, refuse-passed, either-passed}
 use Rattle.rule.proofs.Tests.{neither}
-use Rattle.trace.specs.{mostSamples, bytesFor}
+use Rattle.trace.specs.{mostSamples, bytesFor, deadBits}
 use Rattle.layout.specs.Form.{format, mark, trailerBytes, afterTrace, mostVerdict}
-use Rattle.layout.specs.Trailer.{trailerAt, programDistanceIn, traceDistanceIn, samplesIn, formatIn, markIn, verdictIn, passesIn, fieldsFault, trailerCheck}
+use Rattle.layout.specs.Trailer.{partOf, traceSpan, trailerAt, programDistanceIn, traceDistanceIn, samplesIn, formatIn, markIn, verdictIn, passesIn, fieldsFault, trailerCheck}
 
--- what 1 to 4 leave
+-- what 1 to 3, 23 and 4 leave
 pub record Fields (bytes : List ℕ) : Type 0 where
   pub room : trailerBytes ≤ length bytes
   pub marked : markIn bytes ≡ mark
@@ -26,6 +26,7 @@ pub record Fields (bytes : List ℕ) : Type 0 where
   pub second : traceDistanceIn bytes ≡ bytesFor (samplesIn bytes) + afterTrace
   pub larger : traceDistanceIn bytes < programDistanceIn bytes
   pub before : programDistanceIn bytes ≤ trailerAt bytes
+  pub clean : deadBits (partOf bytes (traceSpan bytes)) (samplesIn bytes) ≡ false
   pub verdict : verdictIn bytes ≤ mostVerdict
   pub some : 1 ≤ passesIn bytes
 
@@ -41,6 +42,7 @@ fields-passed bytes f =
       eq-eqb (traceDistanceIn bytes) (bytesFor (samplesIn bytes) + afterTrace) (f .second),
       lt-leb (programDistanceIn bytes) (traceDistanceIn bytes) (f .larger),
       le-ltb (trailerAt bytes) (programDistanceIn bytes) (f .before),
+      f .clean,
       le-ltb mostVerdict (verdictIn bytes) (f .verdict),
       ne-eqb (passesIn bytes) 0 none,
     )
@@ -67,7 +69,8 @@ passed-fields bytes e =
     let c3 = then-passed _ _ (c2 .1) in
     let f2 = either-passed _ _ _ (c2 .0) in
     let f3 = fields-sound _ _ _ _ (refuse-passed _ _ (c3 .0)) in
-    let f4 = either-passed _ _ _ (c3 .1) in
+    let c4 = then-passed _ _ (c3 .1) in
+    let f4 = either-passed _ _ _ (c4 .1) in
     let none = eqb-false (passesIn bytes) 0 (f4 .1) in
     record {
       room = ltb-false _ _ (refuse-passed _ _ (c1 .0));
@@ -77,6 +80,7 @@ passed-fields bytes e =
       second = f3 .exact;
       larger = f3 .larger;
       before = f3 .within;
+      clean = refuse-passed _ _ (c4 .0);
       verdict = ltb-false _ _ (f4 .0);
       some = omega arith;
     }

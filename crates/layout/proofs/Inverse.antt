@@ -9,12 +9,14 @@ use Prim.Native.Nat.{ℕ, _+_, _-_, _≤_}
 use native.Mathlib.Omega.{arith}
 use lib.ListN.{length, take, length-append}
 use lib.Seq.{take-at, drop-append-seam}
-use Rattle.trace.proofs.Packing.{bytes-few}
+use Rattle.trace.specs.{pack}
+use Rattle.trace.proofs.Packing.{bytes-few, length-pack, samples-packed}
+use Rattle.trace.proofs.Dead.{packed-clean}
 use Rattle.rule.specs.Form.{encode}
 use Rattle.encoding.specs.{lowFirst}
 use Rattle.encoding.proofs.Low.{length-low}
 use Rattle.layout.specs.Form.{Contents, format, mark, labelBytes, afterTrace, trailerBytes, traceDistance, programDistance, trailer, layout, Stated}
-use Rattle.layout.specs.Trailer.{trailerAt, programDistanceIn, traceDistanceIn, samplesIn, formatIn, markIn, verdictIn, passesIn, partsIn, contentsIn}
+use Rattle.layout.specs.Trailer.{partOf, traceSpan, trailerAt, programDistanceIn, traceDistanceIn, samplesIn, formatIn, markIn, verdictIn, passesIn, partsIn, contentsIn}
 use Rattle.layout.proofs.Fields.{Fields}
 use Rattle.layout.proofs.Places.{Stands, part-there, byte-there, number-there, next-there}
 
@@ -33,7 +35,7 @@ module _ (before : List ℕ) (c : Contents) (s : Stated c) where
   result = c .verdict ∷ lowFirst 4 (c .passes) ++ trailer c
 
   abbrev ending : List ℕ
-  ending = lowFirst 2 (c .n) ++ (format ∷ mark ∷ [])
+  ending = lowFirst 2 (length (c .samples)) ++ (format ∷ mark ∷ [])
 
   length-bytes : length Bytes ≡ length before + programDistance c + trailerBytes
   unfolding layout
@@ -42,11 +44,11 @@ module _ (before : List ℕ) (c : Contents) (s : Stated c) where
   start : place - programDistance c ≡ length before
   start = omega (arith, length-bytes)
 
-  from-program : Stands Bytes (place - programDistance c) (c .program) (c .trace ++ (c .label ++ result))
+  from-program : Stands Bytes (place - programDistance c) (c .program) (pack (c .samples) ++ (c .label ++ result))
   unfolding layout
   from-program = rw start (record { there = drop-append-seam before (layout c) })
 
-  from-trace : Stands Bytes (place - traceDistance c) (c .trace) (c .label ++ result)
+  from-trace : Stands Bytes (place - traceDistance c) (pack (c .samples)) (c .label ++ result)
   from-trace = next-there from-program (omega (arith, length-bytes))
 
   from-label : Stands Bytes (place - afterTrace) (c .label) result
@@ -64,19 +66,19 @@ module _ (before : List ℕ) (c : Contents) (s : Stated c) where
   from-second : Stands Bytes (place + 2) (lowFirst 2 (traceDistance c)) ending
   from-second = next-there from-first (omega (arith, length-low 2 (programDistance c)))
 
-  from-count : Stands Bytes (place + 4) (lowFirst 2 (c .n)) (format ∷ mark ∷ [])
+  from-count : Stands Bytes (place + 4) (lowFirst 2 (length (c .samples))) (format ∷ mark ∷ [])
   from-count = next-there from-second (omega (arith, length-low 2 (traceDistance c)))
 
   from-format : Stands Bytes (place + 6) (format ∷ []) (mark ∷ [])
-  from-format = next-there from-count (omega (arith, length-low 2 (c .n)))
+  from-format = next-there from-count (omega (arith, length-low 2 (length (c .samples))))
 
   from-mark : Stands Bytes (place + 7) (mark ∷ []) []
   from-mark = next-there from-format (omega arith)
 
   -- ---- What stands there
 
-  trace-short : length (c .trace) ≤ 512
-  trace-short = bytes-few (c .n) (s .few) (s .packed)
+  trace-short : length (pack (c .samples)) ≤ 512
+  trace-short = bytes-few (length (c .samples)) (s .few) (length-pack (c .samples))
 
   program-some : 1 ≤ length (c .program)
   unfolding encode
@@ -90,9 +92,9 @@ module _ (before : List ℕ) (c : Contents) (s : Stated c) where
   unfolding traceDistanceIn
   second-in = number-there 2 (traceDistance c) from-second (omega (arith, trace-short))
 
-  count-in : samplesIn Bytes ≡ c .n
+  count-in : samplesIn Bytes ≡ length (c .samples)
   unfolding samplesIn
-  count-in = number-there 2 (c .n) from-count (omega (arith, s .few))
+  count-in = number-there 2 (length (c .samples)) from-count (omega (arith, s .few))
 
   format-in : formatIn Bytes ≡ format
   unfolding formatIn
@@ -110,22 +112,26 @@ module _ (before : List ℕ) (c : Contents) (s : Stated c) where
   unfolding passesIn
   passes-in = number-there 4 (c .passes) from-passes (s .fits)
 
+  trace-in : partOf Bytes (traceSpan Bytes) ≡ pack (c .samples)
+  trace-in =
+      let size : traceDistance c - afterTrace ≡ length (pack (c .samples)) = omega arith in
+      rw (second-in, size) (part-there (length (pack (c .samples))) from-trace refl)
+
   pub contents-in : contentsIn Bytes ≡ c
   unfolding partsIn
   contents-in =
       let program : programDistance c - traceDistance c ≡ length (c .program) = omega arith in
-      let trace : traceDistance c - afterTrace ≡ length (c .trace) = omega arith in
       rw (
+        trace-in,
         first-in,
         second-in,
         count-in,
         verdict-in,
         passes-in,
         program,
-        trace,
         part-there (length (c .program)) from-program refl,
-        part-there (length (c .trace)) from-trace refl,
         part-there labelBytes from-label (s .label),
+        samples-packed (c .samples),
       )
 
   pub layout-fields : Fields Bytes
@@ -135,9 +141,10 @@ module _ (before : List ℕ) (c : Contents) (s : Stated c) where
         marked = mark-in;
         formatted = format-in;
         few = rw count-in (s .few);
-        second = rw (second-in, count-in, s .packed);
+        second = rw (second-in, count-in, length-pack (c .samples));
         larger = rw (first-in, second-in) (omega (arith, program-some));
         before = rw first-in (omega (arith, length-bytes));
+        clean = rw (trace-in, count-in) (packed-clean (c .samples));
         verdict = rw verdict-in (s .verdict);
         some = rw passes-in (s .some);
       }

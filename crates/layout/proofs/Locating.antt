@@ -2,7 +2,7 @@
 --   missing, wrong-mark, wrong-format        1 and 2
 --   faulty                                   3
 --   distances                                what 3 leaves
---   sound                                    4, or the parts
+--   sound                                    23, 4, or the parts
 --   two-at, four-at                          the bytes of a number at a place
 use mathlib.Core.Path.{_≡_, sym, _∙_}
 use mathlib.Core.Bool.{Bool, true, false}

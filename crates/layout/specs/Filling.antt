@@ -1,26 +1,33 @@
 -- Writing a record, of document 01: what is recorded with a verdict, and what the output then holds.
 use Prim.Native.Nat.{ℕ}
-use mathlib.Core.Bool.{cond}
+use mathlib.Core.Bool.{Bool, cond, not, _&&_}
 use mathlib.Core.List.{List}
-use lib.Dec.{leb}
-use Rattle.trace.specs.{samples, pack}
+use lib.Dec.{eqb, leb}
+use lib.ListN.{length}
+use Rattle.trace.specs.{bytesFor, samples, deadBits}
 use Rattle.semantics.specs.declared.Verdict.{Verdict}
 use Rattle.semantics.specs.Verdicts.{verdictNumber}
 use Rattle.encoding.specs.{put}
 use Rattle.layout.specs.Form.{Contents, mostVerdict, layout}
 
--- what is recorded with a verdict; bits above the last sample are written 0
+-- what is recorded with a verdict
 unfoldable pub recorded : List ℕ → List ℕ → ℕ → List ℕ → Verdict → Contents
 recorded program trace n label v =
     record {
       program = program;
-      trace = pack (samples trace n);
-      n = n;
+      samples = samples trace n;
       label = label;
       verdict = verdictNumber (v .decision);
       passes = v .passes;
     }
 
--- an output with a record at its front; where there is no room for it, or its verdict is above 4, the output is as it was
-unfoldable pub filled : Contents → List ℕ → List ℕ
-filled c out = cond (leb (c .verdict) mostVerdict) (put 0 (layout c) out) out
+-- bytes that are those of n samples: as many as these take, with no bit above the last set
+unfoldable pub isPacking : List ℕ → ℕ → Bool
+isPacking trace n = eqb (length trace) (bytesFor n) && not (deadBits trace n)
+
+-- an output with a record at its front; where the trace is no packing, the verdict is above 4 or there is no room, the output is
+-- as it was
+unfoldable pub filled : List ℕ → List ℕ → ℕ → List ℕ → Verdict → List ℕ → List ℕ
+filled program trace n label v out =
+    let c = recorded program trace n label v in
+    cond (isPacking trace n && leb (c .verdict) mostVerdict) (put 0 (layout c) out) out

@@ -4,26 +4,21 @@ use mathlib.Core.Path.{_≡_}
 use mathlib.Core.Bool.{Bool}
 use mathlib.Core.List.{List, [], _∷_, _++_}
 use lib.ListN.{length}
-use Rattle.trace.specs.{mostSamples, bytesFor, samples}
+use Rattle.trace.specs.{mostSamples, pack}
 use Rattle.semantics.specs.Language.{Program}
 use Rattle.rule.specs.Form.{Accepted}
 use Rattle.encoding.specs.{lowFirst}
 
 -- ---- Contents
 
--- what a record holds: program and trace by their bytes, n samples, the site label, the number of the verdict, the
--- pass count
+-- what a record holds: the program by its bytes, the samples of the trace, oldest first, the site label, the number of the
+-- verdict, the pass count
 pub record Contents : Type 0 where
   pub program : List ℕ
-  pub trace : List ℕ
-  pub n : ℕ
+  pub samples : List Bool
   pub label : List ℕ
   pub verdict : ℕ
   pub passes : ℕ
-
--- the samples in it; bits above the last are passed over
-abbrev pub samplesOf : Contents → List Bool
-samplesOf c = samples (c .trace) (c .n)
 
 -- ---- Its bytes
 
@@ -47,7 +42,7 @@ afterTrace = labelBytes + 1 + 4
 
 -- the distances 'from the trailer's first byte to the program's first, the same to the trace's first'
 abbrev pub traceDistance : Contents → ℕ
-traceDistance c = length (c .trace) + afterTrace
+traceDistance c = length (pack (c .samples)) + afterTrace
 
 abbrev pub programDistance : Contents → ℕ
 programDistance c = length (c .program) + traceDistance c
@@ -55,11 +50,11 @@ programDistance c = length (c .program) + traceDistance c
 -- 'last a trailer of eight bytes that points back'; 'all are low byte first'
 abbrev pub trailer : Contents → List ℕ
 trailer c =
-    lowFirst 2 (programDistance c) ++ (lowFirst 2 (traceDistance c) ++ (lowFirst 2 (c .n) ++ (format ∷ mark ∷ [])))
+    lowFirst 2 (programDistance c) ++ (lowFirst 2 (traceDistance c) ++ (lowFirst 2 (length (c .samples)) ++ (format ∷ mark ∷ [])))
 
 -- 'a record is program, trace bytes, an eight-byte site label, verdict byte, pass count (32 bits), and last a trailer'
 unfoldable pub layout : Contents → List ℕ
-layout c = c .program ++ (c .trace ++ (c .label ++ (c .verdict ∷ lowFirst 4 (c .passes) ++ trailer c)))
+layout c = c .program ++ (pack (c .samples) ++ (c .label ++ (c .verdict ∷ lowFirst 4 (c .passes) ++ trailer c)))
 
 -- ---- Contents that a record can hold
 
@@ -67,11 +62,10 @@ layout c = c .program ++ (c .trace ++ (c .label ++ (c .verdict ∷ lowFirst 4 (c
 abbrev pub mostVerdict : ℕ
 mostVerdict = 4
 
--- what 2 to 17 leave
+-- what 2, 3, 23 and 4 to 17 leave
 pub record Stated (c : Contents) : Type 0 where
   pub program : (P : Program) × Accepted (c .program) P
-  pub few : c .n ≤ mostSamples
-  pub packed : length (c .trace) ≡ bytesFor (c .n)
+  pub few : length (c .samples) ≤ mostSamples
   pub label : length (c .label) ≡ labelBytes
   pub verdict : c .verdict ≤ mostVerdict
   pub some : 1 ≤ c .passes

@@ -5,11 +5,12 @@ use mathlib.Core.Bool.{_||_}
 use mathlib.Core.List.{List}
 use lib.Dec.{eqb, ltb}
 use lib.ListN.{getD}
-use Rattle.refusal.specs.declared.Refusal.the-variants.{VerdictOrPasses}
-use Rattle.refusal.specs.{refuseIf}
+use Rattle.refusal.specs.declared.Refusal.the-variants.{VerdictOrPasses, DeadBits}
+use Rattle.refusal.specs.{refuseIf, _then_}
+use Rattle.trace.specs.{deadBits}
 use Rattle.layout.specs.declared.Reading.{Reading}
 use Rattle.layout.specs.Form.{labelBytes, trailerBytes, afterTrace, mostVerdict}
-use Rattle.layout.specs.Trailer.{span, numberAt, readBy}
+use Rattle.layout.specs.Trailer.{span, partOf, numberAt, readBy}
 
 -- the distances of a trailer that 3 does not refuse
 pub record Distances (len at first second : ℕ) : Type 0 where
@@ -18,11 +19,12 @@ pub record Distances (len at first second : ℕ) : Type 0 where
   pub larger : second < first
   pub tail : afterTrace ≤ second
 
--- 4, and the parts by the trailer's place and fields
+-- 23, 4, and the parts by the trailer's place and fields
 unfoldable pub partsStored : List ℕ → ℕ → ℕ → ℕ → ℕ → Reading
 partsStored bytes at first second n =
     readBy
-    (refuseIf (ltb mostVerdict (getD bytes (at - 5) 0) || eqb (numberAt 4 (at - 4) bytes) 0) VerdictOrPasses)
+    (refuseIf (deadBits (partOf bytes (span (at - second) (second - afterTrace))) n) DeadBits
+    then refuseIf (ltb mostVerdict (getD bytes (at - 5) 0) || eqb (numberAt 4 (at - 4) bytes) 0) VerdictOrPasses)
     (record {
       program = span (at - first) (first - second);
       trace = span (at - second) (second - afterTrace);

@@ -1,14 +1,14 @@
--- The trailer of a record, of document 01: where the parts stand in bytes that end in it, and its refusals, 1 to 4.
+-- The trailer of a record, of documents 01 and 02: where the parts stand in bytes that end in it, and its refusals, 1 to 4 and 23.
 use Prim.Native.Nat.{ℕ, _+_, _-_}
 use mathlib.Core.Bool.{Bool, not, _||_}
 use mathlib.Core.List.{List}
 use lib.Dec.{eqb, leb, ltb}
 use lib.ListN.{length, getD, take, drop}
-use Rattle.refusal.specs.declared.Refusal.the-variants.{TrailerMissing, MarkOrFormat, TrailerFields, VerdictOrPasses}
+use Rattle.refusal.specs.declared.Refusal.the-variants.{TrailerMissing, MarkOrFormat, TrailerFields, VerdictOrPasses, DeadBits}
 use Rattle.refusal.specs.declared.Check.{Check}
 use Rattle.refusal.specs.declared.Check.the-variants as check
 use Rattle.refusal.specs.{refuseIf, _then_}
-use Rattle.trace.specs.{mostSamples, bytesFor}
+use Rattle.trace.specs.{mostSamples, bytesFor, samples, deadBits}
 use Rattle.encoding.specs.{fromLow}
 use Rattle.layout.specs.declared.Span.{Span}
 use Rattle.layout.specs.declared.Parts.{Parts}
@@ -49,7 +49,10 @@ formatIn bytes = getD bytes (trailerAt bytes + 6) 0
 unfoldable pub markIn : List ℕ → ℕ
 markIn bytes = getD bytes (trailerAt bytes + 7) 0
 
--- before the trailer: the verdict byte and the pass count
+-- before the trailer: where the trace stands, the verdict byte and the pass count
+abbrev pub traceSpan : List ℕ → Span
+traceSpan bytes = span (trailerAt bytes - traceDistanceIn bytes) (traceDistanceIn bytes - afterTrace)
+
 unfoldable pub verdictIn : List ℕ → ℕ
 verdictIn bytes = getD bytes (trailerAt bytes - 5) 0
 
@@ -65,12 +68,13 @@ fieldsFault before first second n =
     ltb mostSamples n || (not (eqb second (bytesFor n + afterTrace)) || (leb first second || ltb before first))
 
 -- 1: 'fewer than eight bytes remain for a trailer', 2: 'the mark is not 0x52 or the format is not 1',
--- 3, 4: 'the verdict byte is above 4 or the pass count is 0'
+-- 3, and directly after it 23: 'a bit above the last sample is set', 4: 'the verdict byte is above 4 or the pass count is 0'
 unfoldable pub trailerCheck : List ℕ → Check
 trailerCheck bytes =
     refuseIf (ltb (length bytes) trailerBytes) TrailerMissing
     then refuseIf (not (eqb (markIn bytes) mark) || not (eqb (formatIn bytes) format)) MarkOrFormat
     then refuseIf (fieldsFault (trailerAt bytes) (programDistanceIn bytes) (traceDistanceIn bytes) (samplesIn bytes)) TrailerFields
+    then refuseIf (deadBits (partOf bytes (traceSpan bytes)) (samplesIn bytes)) DeadBits
     then refuseIf (ltb mostVerdict (verdictIn bytes) || eqb (passesIn bytes) 0) VerdictOrPasses
 
 -- ---- The parts
@@ -80,7 +84,7 @@ unfoldable pub partsIn : List ℕ → Parts
 partsIn bytes =
     record {
       program = span (trailerAt bytes - programDistanceIn bytes) (programDistanceIn bytes - traceDistanceIn bytes);
-      trace = span (trailerAt bytes - traceDistanceIn bytes) (traceDistanceIn bytes - afterTrace);
+      trace = traceSpan bytes;
       n = samplesIn bytes;
       label = span (trailerAt bytes - afterTrace) labelBytes;
       verdict = verdictIn bytes;
@@ -92,8 +96,7 @@ abbrev pub contentsAt : List ℕ → Parts → Contents
 contentsAt bytes p =
     record {
       program = partOf bytes (p .program);
-      trace = partOf bytes (p .trace);
-      n = p .n;
+      samples = samples (partOf bytes (p .trace)) (p .n);
       label = partOf bytes (p .label);
       verdict = p .verdict;
       passes = p .passes;

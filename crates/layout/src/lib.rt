@@ -7,7 +7,7 @@ use refusal::Refusal;
 use semantics::Verdict;
 ghost use mathlib.Core.Path.{_≡_};
 ghost use Rattle.layout.specs.Trailer.{partOf, located};
-ghost use Rattle.layout.specs.Filling.{recorded, filled};
+ghost use Rattle.layout.specs.Filling.{filled};
 
 // The format and the mark of a record.
 pub const FORMAT: u8 = 1;
@@ -89,23 +89,26 @@ pub fn part(bytes: &[u8], span: Span) -> &[u8]
     &bytes[start..end]
 }
 
-// Writes a record to the front of the output. Where there is no room for it, or the verdict has a number that no
-// record holds, nothing is written.
+// Writes a record to the front of the output, with the trace's very bytes. Where these are not those of n samples, the
+// verdict has a number that no record holds, or there is no room, nothing is written.
 pub fn fill(program: &[u8], trace: &[u8], n: u16, label: [u8; 8], verdict: Verdict, out: &mut [u8])
-    ensures { λ _. ⌜ now (out .exit) ≡ filled (recorded (now (program .entry)) (now (trace .entry)) n label verdict) (now (out .entry)) ⌝ }
+    ensures { λ _. ⌜ now (out .exit) ≡ filled (now (program .entry)) (now (trace .entry)) n label verdict (now (out .entry)) ⌝ }
 {
+    if !pieces::is_packing(trace, n as usize) {
+        return;
+    }
     let decision = verdict.decision;
     let number = semantics::verdict_number(decision);
     if (MOST_VERDICT as u32) < number {
         return;
     }
-    let second = trace::bytes_for(n as usize) + AFTER_TRACE;
+    let second = trace.len() + AFTER_TRACE;
     let first = program.len() + second;
     if out.len() < first + TRAILER {
         return;
     }
     let after_program = encoding::put(out, 0, program);
-    let after_trace = pieces::put_trace(out, after_program, trace, n as usize);
+    let after_trace = encoding::put(out, after_program, trace);
     let after_label = encoding::put(out, after_trace, &label);
     let after_passes = encoding::put(
         out,

@@ -1,34 +1,18 @@
 // The pieces that a record is written in.
 ghost use mathlib.Core.Path.{_≡_};
-ghost use Prim.Native.Nat.{_+_, _≤_};
 ghost use mathlib.Core.List.{[], _∷_, _++_};
-ghost use lib.ListN.{length};
-ghost use Rattle.trace.specs.{bytesFor, samples, packedInto};
-ghost use Rattle.trace.specs.{pack as Trace·pack};
-ghost use Rattle.encoding.specs.{lowFirst, put, placeAfter};
+ghost use Rattle.encoding.specs.{lowFirst};
 ghost use Rattle.layout.specs.Form.{format, mark};
+ghost use Rattle.layout.specs.Filling.{isPacking as Filling·isPacking};
 
-// Packs the first n samples of a trace into the output at a place, and answers the place after them.
-pub fn put_trace(out: &mut [u8], at: usize, trace: &[u8], n: usize) -> usize
-    requires { ⌜ at + bytesFor n ≤ length (now out) ⌝ }
-    ensures place { λ r. ⌜ r ≡ placeAfter at (Trace·pack (samples (now (trace .entry)) n)) (now (out .entry)) ⌝ }
-    ensures output { λ _. ⌜ now (out .exit) ≡ put at (Trace·pack (samples (now (trace .entry)) n)) (now (out .entry)) ⌝ }
+// Whether bytes are those of n samples: as many as these take, with no bit above the last set.
+pub fn is_packing(bytes: &[u8], n: usize) -> bool
+    ensures { λ r. ⌜ r ≡ Filling·isPacking (now (bytes .entry)) n ⌝ }
 {
-    let size = trace::bytes_for(n);
-    pack(&mut out[at..], trace, n);
-    at + size
-}
-
-// Packs the first n samples of a trace to the front of the output; bits above the last become 0.
-fn pack(out: &mut [u8], trace: &[u8], n: usize)
-    requires { ⌜ bytesFor n ≤ length (now out) ⌝ }
-    ensures { λ _. ⌜ now (out .exit) ≡ packedInto (now (out .entry)) (samples (now (trace .entry)) n) ⌝ }
-{
-    let mut i: usize = 0;
-    while i < n {
-        trace::write(out, i, trace::sample(trace, i));
-        i += 1;
+    if bytes.len() != trace::bytes_for(n) {
+        return false;
     }
+    !trace::dead_bits(bytes, n)
 }
 
 // The verdict byte and the pass count.

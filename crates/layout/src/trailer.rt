@@ -1,4 +1,4 @@
-// The trailer and the bytes before it: numbers at a place, 3 and 4 of the list, and where the parts stand.
+// The trailer and the bytes before it: numbers at a place, 3, 23 and 4 of the list, and where the parts stand.
 use crate::Parts;
 use crate::Reading;
 use crate::Span;
@@ -41,13 +41,22 @@ pub fn fields_fault(before: usize, first: usize, second: usize, n: usize) -> boo
     before < first
 }
 
-// The parts of a record whose trailer stands at a place and has these fields, unless 4 applies.
+// The parts of a record whose trailer stands at a place and has these fields, unless 23 or 4 applies.
 pub fn stored_parts(bytes: &[u8], at: usize, first: usize, second: usize, n: u16) -> Reading
     requires { ⌜ Distances (length (now bytes)) at first second ⌝ }
     ensures { λ r. ⌜ r ≡ partsStored (now (bytes .entry)) at first second n ⌝ }
 {
+    let trace = Span {
+        start: at - second,
+        length: second - crate::AFTER_TRACE,
+    };
+    let count = n as usize;
+    let dead = trace::dead_bits(crate::part(bytes, trace), count);
     let verdict = bytes[at - 5];
     let passes = thirty_two(bytes, at - 4);
+    if dead {
+        return Reading::Refused(Refusal::DeadBits);
+    }
     if crate::MOST_VERDICT < verdict {
         return Reading::Refused(Refusal::VerdictOrPasses);
     }
@@ -59,10 +68,7 @@ pub fn stored_parts(bytes: &[u8], at: usize, first: usize, second: usize, n: u16
             start: at - first,
             length: first - second,
         },
-        trace: Span {
-            start: at - second,
-            length: second - crate::AFTER_TRACE,
-        },
+        trace,
         n,
         label: Span {
             start: at - crate::AFTER_TRACE,

@@ -1,29 +1,37 @@
--- 'What is refused' of document 01: the refusals of evaluating, 5 to 17, 20 and 21.
+-- 'What is refused' of documents 01 and 02: the refusals of evaluating, 5 to 17, 20, 23 and 21.
 use Prim.Native.Nat.{ℕ}
-use mathlib.Core.Bool.{not, _||_}
+use mathlib.Core.Bool.{Bool, not, _||_}
 use mathlib.Core.List.{List}
 use lib.Dec.{eqb, ltb}
 use lib.ListN.{length}
-use Rattle.refusal.specs.declared.Refusal.the-variants.{TraceLength, TableShort}
+use Rattle.refusal.specs.declared.Refusal.the-variants.{TraceLength, TableShort, DeadBits}
 use Rattle.refusal.specs.declared.Check.{Check}
 use Rattle.refusal.specs.declared.Check.the-variants as check
 use Rattle.refusal.specs.{refuseIf, _then_}
-use Rattle.trace.specs.{mostSamples, bytesFor, samples}
+use Rattle.trace.specs.{mostSamples, bytesFor, samples, deadBits}
 use Rattle.semantics.specs.Language.{Program}
 use Rattle.semantics.specs.Numbering.{cells, mostCells}
 use Rattle.rule.specs.Reading.{Parsed, got, refused, programFrom}
 
 -- 20: 'a lent trace has n above 4,095 or not n / 8 rounded up bytes'
-abbrev pub traceCheck : ℕ → ℕ → Check
-traceCheck n bytes = refuseIf (ltb mostSamples n || not (eqb bytes (bytesFor n))) TraceLength
+abbrev pub lengthCheck : ℕ → ℕ → Check
+lengthCheck n bytes = refuseIf (ltb mostSamples n || not (eqb bytes (bytesFor n))) TraceLength
+
+-- 23: 'a bit above the last sample is set'
+abbrev pub deadCheck : Bool → Check
+deadCheck dead = refuseIf dead DeadBits
+
+-- of a lent trace: 20, and directly after it 23
+abbrev pub traceCheck : List ℕ → ℕ → Check
+traceCheck trace n = lengthCheck n (length trace) then deadCheck (deadBits trace n)
 
 -- 21: 'the cells needed exceed the lent table or 16,777,216'
 abbrev pub tableCheck : ℕ → ℕ → Check
 tableCheck needed lent = refuseIf (ltb lent needed || ltb mostCells needed) TableShort
 
--- 5 to 17, 20, 21, in this order; the program is what its bytes are read as
+-- 5 to 17, 20, 23, 21, in this order; the program is what its bytes are read as
 abbrev pub checkRead : Parsed Program → List ℕ → ℕ → ℕ → Check
-checkRead (got P rest) trace n lent = traceCheck n (length trace) then tableCheck (cells (samples trace n) P) lent
+checkRead (got P rest) trace n lent = traceCheck trace n then tableCheck (cells (samples trace n) P) lent
 checkRead (refused f) trace n lent = check.Refused f
 
 unfoldable pub evaluateCheck : List ℕ → List ℕ → ℕ → ℕ → Check

@@ -25,7 +25,8 @@ pub record Settled (bytes trace : List ℕ) (n : ℕ) (outline : Outline) (place
   pub fits : cells (samples trace n) program ≤ mostCells
   pub room : cells (samples trace n) program ≤ lent
 
--- the array of functions, and the cells of all, by the check of program and trace: none where one of them is refused
+-- the array of functions, and the cells of all, by the check of the program and of the trace's length: none where one of them is
+-- refused
 abbrev pub functionsBy : Check → Outline → ℕ → List ℕ
 functionsBy check.Passed outline n = functionsOf (outline .kinds) (outline .params) n (outline .functions)
 functionsBy (check.Refused f) outline n = replicate 96 0

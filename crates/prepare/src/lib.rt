@@ -10,11 +10,11 @@ ghost use Rattle.refusal.specs.declared.Check.the-variants as Check;
 ghost use Rattle.refusal.specs.{_then_};
 ghost use Rattle.rule.specs.Reading.{programFrom, programCheck};
 ghost use Rattle.rule.specs.Outline.{outlineFrom};
-ghost use Rattle.prepare.specs.Checks.{traceCheck, tableCheck, evaluateCheck};
+ghost use Rattle.prepare.specs.Checks.{lengthCheck, deadCheck, tableCheck, evaluateCheck};
 ghost use Rattle.prepare.specs.Settled.{Settled, functionsBy, totalBy};
 
 // The check of an evaluation, and where the functions and their cells stand. Of a program that is refused the outline is that of
-// no functions; where it or the trace is refused there are no cells.
+// no functions; where it or the trace's length is refused there are no cells.
 pub struct Prepared {
     pub check: Check,
     pub outline: Outline,
@@ -26,21 +26,21 @@ pub fn prepare(program: &[u8], trace: &[u8], n: usize, lent: usize) -> Prepared
     ensures check { λ r. ⌜ r .check ≡ evaluateCheck (now (program .entry)) (now (trace .entry)) n lent ⌝ }
     ensures settled { λ r. ⌜ (r .check ≡ Check.Passed → Settled (now (program .entry)) (now (trace .entry)) n (r .outline) (r .cells) lent) ⌝ }
     ensures outline { λ r. ⌜ r .outline ≡ outlineFrom (programFrom (now (program .entry))) ⌝ }
-    ensures cells { λ r. ⌜ (r .cells .functions ≡ functionsBy (programCheck (now (program .entry)) then traceCheck n (length (now (trace .entry)))) (outlineFrom (programFrom (now (program .entry)))) n) × (r .cells .total ≡ totalBy (programCheck (now (program .entry)) then traceCheck n (length (now (trace .entry)))) (outlineFrom (programFrom (now (program .entry)))) n) ⌝ }
+    ensures cells { λ r. ⌜ (r .cells .functions ≡ functionsBy (programCheck (now (program .entry)) then lengthCheck n (length (now (trace .entry)))) (outlineFrom (programFrom (now (program .entry)))) n) × (r .cells .total ≡ totalBy (programCheck (now (program .entry)) then lengthCheck n (length (now (trace .entry)))) (outlineFrom (programFrom (now (program .entry)))) n) ⌝ }
 {
     let checked = rule::check_program(program);
     let check = checked.check;
     let outline = checked.outline;
     match check {
         Check::Refused(refusal) => refused(refusal, outline),
-        Check::Passed => match trace_check(n, trace.len()) {
+        Check::Passed => match length_check(n, trace.len()) {
             Check::Refused(refusal) => refused(refusal, outline),
             Check::Passed => {
                 let params = outline.params;
                 let kinds = outline.kinds;
                 let cells = setup::cells_of(outline.functions, &params, &kinds, n as u16);
                 Prepared {
-                    check: table_check(cells.total, lent),
+                    check: rest_check(trace::dead_bits(trace, n), cells.total, lent),
                     outline,
                     cells,
                 }
@@ -63,8 +63,9 @@ fn refused(refusal: Refusal, outline: Outline) -> Prepared
     }
 }
 
-fn trace_check(n: usize, bytes: usize) -> Check
-    ensures { λ r. ⌜ r ≡ traceCheck n bytes ⌝ }
+// 20.
+fn length_check(n: usize, bytes: usize) -> Check
+    ensures { λ r. ⌜ r ≡ lengthCheck n bytes ⌝ }
 {
     if trace::MOST_SAMPLES < n {
         return Check::Refused(Refusal::TraceLength);
@@ -75,9 +76,13 @@ fn trace_check(n: usize, bytes: usize) -> Check
     Check::Passed
 }
 
-fn table_check(needed: u64, lent: usize) -> Check
-    ensures { λ r. ⌜ r ≡ tableCheck needed lent ⌝ }
+// 23, then 21.
+fn rest_check(dead: bool, needed: u64, lent: usize) -> Check
+    ensures { λ r. ⌜ r ≡ (deadCheck dead then tableCheck needed lent) ⌝ }
 {
+    if dead {
+        return Check::Refused(Refusal::DeadBits);
+    }
     if (lent as u64) < needed {
         return Check::Refused(Refusal::TableShort);
     }

@@ -1,7 +1,9 @@
 -- Bytes that are read as a record end in the layout of what they hold:
 --   ends-in                it is stated, and the bytes are those before the record and its layout
 --   accepts-exactly        reading accepts exactly the bytes that end in a record
-use mathlib.Core.Path.{_≡_}
+--   own-layout             a record's own bytes are the layout of what it holds
+--   same-exactly           so two records that are read hold the same exactly when their own bytes are the same
+use mathlib.Core.Path.{_≡_, sym, ap, _∙_}
 use mathlib.Core.List.{List}
 use Prim.Native.Nat.{ℕ}
 use lib.ListN.{take}
@@ -9,9 +11,11 @@ use Rattle.rule.specs.Form.{AreBytes}
 use Rattle.layout.specs.declared.Parts.{Parts}
 use Rattle.layout.specs.declared.Reading.the-variants as read
 use Rattle.layout.specs.Trailer.{partsIn, contentsAt}
-use Rattle.layout.proofs.Ends.{contents-stated, ends-whole}
+use Rattle.layout.specs.Form.{layout}
+use Rattle.layout.proofs.Ends.{contents-stated, from-program, ends-whole}
+use Rattle.layout.proofs.Inverse.{same-layout}
 use Rattle.record.specs.Reading.{reading}
-use Rattle.record.specs.Inverse.{EndsIn, EndInRecord, AcceptsExactly}
+use Rattle.record.specs.Inverse.{EndsIn, EndInRecord, AcceptsExactly, ownBytes, SameExactly}
 use Rattle.record.proofs.Answers.{record-read}
 use Rattle.record.proofs.Inverse.{read-back}
 
@@ -28,3 +32,16 @@ accepts-exactly bytes are =
   where
     found : EndInRecord bytes → (p : Parts) × (reading bytes ≡ read.Record p)
     found (before, c, s, e) = let r = read-back before c s in (r .parts, rw e (r .accepted))
+
+pub own-layout : (bytes : List ℕ) (p : Parts) → AreBytes bytes → reading bytes ≡ read.Record p → ownBytes bytes p ≡ layout (contentsAt bytes p)
+own-layout bytes p are e = let r = record-read bytes p e in rw (r .parts) at (from-program bytes are (r .fields))
+
+pub same-exactly : (bytes bytes′ : List ℕ) → AreBytes bytes → AreBytes bytes′ → SameExactly bytes bytes′
+same-exactly bytes bytes′ are are′ p p′ e e′ =
+    let own = own-layout bytes p are e in
+    let own′ = own-layout bytes′ p′ are′ e′ in (
+      λ same. own ∙ ap layout same ∙ sym own′,
+      λ same.
+          same-layout (contentsAt bytes p) (contentsAt bytes′ p′) (ends-in bytes p are e .stated) (ends-in bytes′ p′ are′ e′ .stated)
+          (sym own ∙ same ∙ own′),
+    )

@@ -12,12 +12,11 @@ use mathlib.Core.List.{List, _∷_}
 use Prim.Native.Nat.{ℕ}
 use native.Mathlib.Omega.{arith}
 use lib.ListN.{length}
-use borrow.Author.Tests.{le-ltb, eq-eqb}
 use Rattle.refusal.specs.declared.Refusal.{Refusal}
 use Rattle.refusal.specs.declared.Check.{Check}
 use Rattle.refusal.specs.declared.Check.the-variants.{Passed, Refused}
 use Rattle.refusal.specs.{_then_, answerIf}
-use Rattle.trace.specs.{mostSamples, bytesFor, samples, digit}
+use Rattle.trace.specs.{bytesFor, samples, digit}
 use Rattle.semantics.specs.declared.Verdict.{Verdict}
 use Rattle.semantics.specs.Language.{Program}
 use Rattle.semantics.specs.Numbering.{cells}
@@ -27,12 +26,13 @@ use Rattle.rule.specs.Reading as reading
 use Rattle.evaluate.specs.declared.Evaluated.{Evaluated}
 use Rattle.evaluate.specs.declared.Evaluated.the-variants as evaluated
 use Rattle.prepare.specs.Checks.{traceCheck, tableCheck, checkRead, evaluateCheck}
+use Rattle.prepare.proofs.Preparing.{trace-passes}
 use Rattle.evaluate.specs.Evaluate.{evaluation, tableEvaluated}
 use Rattle.evaluate.proofs.Evaluating.{evaluation-decides}
 use Rattle.layout.specs.declared.Parts.{Parts}
 use Rattle.layout.specs.declared.Reading.{Reading}
 use Rattle.layout.specs.declared.Reading.the-variants as read
-use Rattle.layout.specs.Form.{Contents, samplesOf}
+use Rattle.layout.specs.Form.{Contents}
 use Rattle.layout.specs.Trailer.{partOf, contentsIn, trailerCheck, partsIn, readBy, located}
 use Rattle.layout.proofs.Answers.{located-refusal, located-passed, parts-are}
 use Rattle.layout.proofs.Fields.{passed-fields}
@@ -50,27 +50,37 @@ use Rattle.refusal.proofs.Checks.{then-passed}
 -- ---- The checks
 
 -- evaluating judges the program, then the trace, then the cells
-judged : (p : Parsed Program) (trace : List ℕ) (n lent : ℕ) → traceCheck n (length trace) ≡ Passed
+judged : (p : Parsed Program) (trace : List ℕ) (n lent : ℕ) → traceCheck trace n ≡ Passed
     → (checkFrom p then tableCheck (cells (samples trace n) (programIn p)) lent) ≡ checkRead p trace n lent
 judged (got P rest) trace n lent t = rw t
 judged (reading.refused f) trace n lent t = refl
+
+-- the bytes of the trace that a record holds
+abbrev traceIn : List ℕ → List ℕ
+traceIn bytes = partOf bytes (partsIn bytes .trace)
 
 module _ (bytes : List ℕ) (passed : trailerCheck bytes ≡ Passed) where
   abbrev c : Contents
   c = contentsIn bytes
 
-  trace-fits : traceCheck (c .n) (length (c .trace)) ≡ Passed
+  abbrev trace : List ℕ
+  trace = traceIn bytes
+
+  abbrev n : ℕ
+  n = partsIn bytes .n
+
+  trace-fits : traceCheck trace n ≡ Passed
   unfolding partsIn
   trace-fits =
       let f = passed-fields bytes passed in
-      let size : length (c .trace) ≡ bytesFor (c .n) = length-part bytes _ _ (omega arith) ∙ omega arith in
-      rw (le-ltb mostSamples (c .n) (f .few), eq-eqb (length (c .trace)) (bytesFor (c .n)) size)
+      let size : length trace ≡ bytesFor n = length-part bytes _ _ (omega arith) ∙ omega arith in
+      trace-passes trace n (f .few) size (f .clean)
 
-  pub check-is : (lent : ℕ) → recordCheck bytes lent ≡ evaluateCheck (c .program) (c .trace) (c .n) lent
+  pub check-is : (lent : ℕ) → recordCheck bytes lent ≡ evaluateCheck (c .program) trace n lent
   unfolding recordCheck readCheck evaluateCheck programCheck
-  check-is lent = rw passed (judged (programFrom (c .program)) (c .trace) (c .n) lent trace-fits)
+  check-is lent = rw passed (judged (programFrom (c .program)) trace n lent trace-fits)
 
-  pub table-is : (T : List ℕ) {T′ : List ℕ} → T′ ≡ tableEvaluated (c .program) (c .trace) (c .n) T → T′ ≡ tableChecked bytes T
+  pub table-is : (T : List ℕ) {T′ : List ℕ} → T′ ≡ tableEvaluated (c .program) trace n T → T′ ≡ tableChecked bytes T
   unfolding tableEvaluated tableChecked
   table-is T e = e ∙ rw (check-is (length T))
 
@@ -94,7 +104,7 @@ unfolding readingOf
 read-is bytes e = rw e
 
 checked-is : (bytes : List ℕ) (lent : ℕ) {k : Check} → recordCheck bytes lent ≡ k
-    → checkedBy k (contentsIn bytes) (verdictOf (programHeld (contentsIn bytes)) (samplesOf (contentsIn bytes))) ≡ checking bytes lent
+    → checkedBy k (contentsIn bytes) (verdictOf (programHeld (contentsIn bytes)) (contentsIn bytes .samples)) ≡ checking bytes lent
 unfolding checking
 checked-is bytes lent e = rw e
 
@@ -104,7 +114,7 @@ unfolding recordCheck
 read-first bytes lent e = then-passed (readCheck bytes) _ e .0
 
 module _ (bytes T : List ℕ) (passed : trailerCheck bytes ≡ Passed) {r : Evaluated}
-    (e : r ≡ evaluation (contentsIn bytes .program) (contentsIn bytes .trace) (contentsIn bytes .n) (length T)) where
+    (e : r ≡ evaluation (contentsIn bytes .program) (traceIn bytes) (partsIn bytes .n) (length T)) where
   abbrev contents : Contents
   contents = contentsIn bytes
 
@@ -112,7 +122,7 @@ module _ (bytes T : List ℕ) (passed : trailerCheck bytes ≡ Passed) {r : Eval
       → record { reading = read.Record (partsIn bytes); checked = compared (agrees (contents .verdict) (contents .passes) w) w }
       ≡ examining bytes (length T)
   verdict-told {w} q =
-      let t = evaluation-passed (contents .program) (contents .trace) (contents .n) (length T) e q in
+      let t = evaluation-passed (contents .program) (traceIn bytes) (partsIn bytes .n) (length T) e q in
       let all : recordCheck bytes (length T) ≡ Passed = check-is bytes passed (length T) ∙ t .0 in
       examined bytes (length T) (read-is bytes (read-first bytes (length T) all)) (rw (← t .1) (checked-is bytes (length T) all))
 
@@ -123,7 +133,7 @@ module _ (bytes T : List ℕ) (passed : trailerCheck bytes ≡ Passed) {r : Eval
   refused-told {f} q = go (programCheck (contents .program)) refl
     where
       all : recordCheck bytes (length T) ≡ Refused f
-      all = check-is bytes passed (length T) ∙ evaluation-refused (contents .program) (contents .trace) (contents .n) (length T) e q
+      all = check-is bytes passed (length T) ∙ evaluation-refused (contents .program) (traceIn bytes) (partsIn bytes .n) (length T) e q
 
       read-by : readCheck bytes ≡ programCheck (contents .program)
       read-by = rw passed
@@ -143,9 +153,9 @@ pub checking-decides : (bytes T T′ : List ℕ) {r : Checked} → r ≡ checkin
     → CheckDemand3 bytes (length T) (λ v. r ≡ comparedIn bytes v) T′
 checking-decides bytes T T′ told left P passed a room =
     let c = contentsIn bytes in
-    let all = tableEvaluated (c .program) (c .trace) (c .n) T in
-    let d = evaluation-decides (c .program) (c .trace) (c .n) T all refl refl P a (trace-fits bytes passed) room in
-    let w = evaluation-passed (c .program) (c .trace) (c .n) (length T) refl (d .1) in
+    let all = tableEvaluated (c .program) (traceIn bytes) (partsIn bytes .n) T in
+    let d = evaluation-decides (c .program) (traceIn bytes) (partsIn bytes .n) T all refl refl P a (trace-fits bytes passed) room in
+    let w = evaluation-passed (c .program) (traceIn bytes) (partsIn bytes .n) (length T) refl (d .1) in
     let checks : recordCheck bytes (length T) ≡ Passed = check-is bytes passed (length T) ∙ w .0 in
     (d .0, told ∙ rw (← w .1) (sym (checked-is bytes (length T) checks)), rw (left ∙ sym (table-is bytes passed T refl)) (d .2))
 
@@ -156,7 +166,7 @@ unfolding checking
 checking-numbers bytes lent = go (recordCheck bytes lent) (agrees (contentsIn bytes .verdict) (contentsIn bytes .passes) v) refl
   where
     v : Verdict
-    v = verdictOf (programHeld (contentsIn bytes)) (samplesOf (contentsIn bytes))
+    v = verdictOf (programHeld (contentsIn bytes)) (contentsIn bytes .samples)
 
     go : (k : Check) (b : Bool) → agrees (contentsIn bytes .verdict) (contentsIn bytes .passes) v ≡ b
         → checkedAnswer (checkedBy k (contentsIn bytes) v) ≡ answerIf k (digit b ∷ verdictValues v)
@@ -190,7 +200,7 @@ module _ (bytes T T′ : List ℕ) {l : Reading} (q : l ≡ located bytes) {p : 
   passed : trailerCheck bytes ≡ Passed
   passed = located-passed bytes q e
 
-  told-in : a ≡ evaluation (contentsIn bytes .program) (contentsIn bytes .trace) (contentsIn bytes .n) (length T)
+  told-in : a ≡ evaluation (contentsIn bytes .program) (traceIn bytes) (partsIn bytes .n) (length T)
   told-in = rw (pp, pt, are) at told
 
   left-in : T′ ≡ tableChecked bytes T

@@ -1,10 +1,11 @@
 -- What recording writes is read and checked as it was worked out:
---   recorded-samples       the samples of what is recorded are those of the trace
 --   recorded-stated        what is recorded is what a record can hold
+--   trace-packing          its trace's very bytes are written
 --   written-reads-back     so it is read back
 --   written-agrees         and checking it answers agrees
 use mathlib.Core.Path.{_≡_, refl, ap, _∙_}
-use mathlib.Core.List.{List, [], _++_, append-nil}
+use mathlib.Core.Bool.{true, false}
+use mathlib.Core.List.{List, [], _++_}
 use mathlib.Core.Option.{Option, none, some}
 use Prim.Native.Nat.{ℕ, suc, _^_, _<_, _≤_}
 use native.Mathlib.Omega.{arith}
@@ -12,8 +13,8 @@ use lib.ListN.{length}
 use borrow.Author.Tests.{eq-eqb}
 use Rattle.refusal.specs.declared.Check.the-variants as check
 use Rattle.refusal.specs.{_then_}
-use Rattle.trace.specs.{mostSamples, bytesFor, samples, pack}
-use Rattle.trace.proofs.Packing.{length-samples, samples-pack}
+use Rattle.trace.specs.{mostSamples, bytesFor, samples, deadBits}
+use Rattle.trace.proofs.Packing.{length-samples}
 use Rattle.semantics.specs.declared.Outcome.{Outcome}
 use Rattle.semantics.specs.declared.Verdict.{Verdict}
 use Rattle.semantics.specs.Language.{truth, Program}
@@ -28,10 +29,11 @@ use Rattle.rule.specs.Reading as reading
 use Rattle.rule.proofs.Programs.{passed-accepted, read-encoded}
 use Rattle.prepare.specs.Checks.{traceCheck, tableCheck, checkRead, evaluateCheck}
 use Rattle.prepare.proofs.Preparing.{trace-passed, table-passed}
-use Rattle.layout.specs.Form.{Contents, labelBytes, mostVerdict, samplesOf, layout, Stated}
+use Rattle.layout.specs.Form.{Contents, labelBytes, mostVerdict, layout, Stated}
 use Rattle.layout.specs.Trailer.{contentsIn}
 use Rattle.layout.specs.Filling.{recorded}
-use Rattle.layout.proofs.Filling.{packed-size}
+use Rattle.layout.specs.Filling.{isPacking}
+use Rattle.layout.proofs.Filling.{is-packing}
 use Rattle.layout.proofs.Inverse.{contents-in}
 use Rattle.record.specs.declared.Checked.the-variants as checked
 use Rattle.record.specs.Reading.{readCheck}
@@ -40,16 +42,6 @@ use Rattle.record.specs.Checking.{recordCheck, checkedBy, checking, prog
 use Rattle.record.specs.Inverse.{ReadsBack}
 use Rattle.refusal.proofs.Checks.{then-passed}
 use Rattle.record.proofs.Inverse.{layout-passed, read-back}
-
--- ---- The samples
-
-pub recorded-samples : (program trace : List ℕ) (n : ℕ) (label : List ℕ) (v : Verdict)
-    → samplesOf (recorded program trace n label v) ≡ samples trace n
-unfolding recorded
-recorded-samples program trace n label v =
-    let bits = samples trace n in
-    let back : samples (pack bits ++ []) (length bits) ≡ bits = samples-pack bits [] in
-    rw (append-nil, length-samples trace n) at back
 
 -- ---- The verdict
 
@@ -68,7 +60,8 @@ record Seen (program trace : List ℕ) (n lent : ℕ) : Type 0 where
   P : Program
   accepted : Accepted program P
   few : n ≤ mostSamples
-  packed : length trace ≡ bytesFor n
+  size : length trace ≡ bytesFor n
+  clean : deadBits trace n ≡ false
   table : tableCheck (cells (samples trace n) P) lent ≡ check.Passed
   fits : suc (cells (samples trace n) P) < 256 ^ 4
 
@@ -81,15 +74,16 @@ unfolding evaluateCheck programCheck
 seen program trace n lent are e =
     let w = passed-accepted program are (seen-program (programFrom program) trace n lent e) in
     let P = w .0 in
-    let both : (traceCheck n (length trace) then tableCheck (cells (samples trace n) P) lent) ≡ check.Passed =
+    let both : (traceCheck trace n then tableCheck (cells (samples trace n) P) lent) ≡ check.Passed =
     rw (read-encoded program P (w .1)) at e in
     let c = then-passed _ _ both in
-    let t = trace-passed n (length trace) refl (c .0) in
+    let t = trace-passed trace n (c .0) in
     record {
       P = P;
       accepted = w .1;
       few = t .0;
-      packed = t .1;
+      size = t .1;
+      clean = t .2;
       table = c .1;
       fits = omega (arith, table-passed (cells (samples trace n) P) lent refl (c .1) .1);
     }
@@ -119,13 +113,16 @@ module _ (program trace : List ℕ) (n : ℕ) (label : List ℕ) (lent room : �
   recorded-stated =
       record {
         program = (evaluated .P, evaluated .accepted);
-        few = evaluated .few;
-        packed = packed-size trace n;
+        few = rw (length-samples trace n) (evaluated .few);
         label = size;
         verdict = verdict-small _;
         some = counted .0;
         fits = counted .1;
       }
+
+  -- the trace's bytes are those of its samples
+  pub trace-packing : isPacking trace n ≡ true
+  trace-packing = is-packing trace n (evaluated .size) (evaluated .clean)
 
   -- the table's check, of what is recorded
   table-fits : tableCheck (cells (samples trace n) (programOf program)) lent ≡ check.Passed
@@ -140,12 +137,12 @@ written-reads-back before program trace n label lent room are size e =
 
 -- bytes that hold c, and whose verdict and pass count are the ones worked out
 agreed : (bytes : List ℕ) (lent : ℕ) (c : Contents) (v : Verdict) → readCheck bytes ≡ check.Passed → contentsIn bytes ≡ c
-    → tableCheck (cells (samplesOf c) (programHeld c)) lent ≡ check.Passed → verdictOf (programHeld c) (samplesOf c) ≡ v
+    → tableCheck (cells (c .samples) (programHeld c)) lent ≡ check.Passed → verdictOf (programHeld c) (c .samples) ≡ v
     → c .verdict ≡ verdictNumber (v .decision) → c .passes ≡ v .passes → checking bytes lent ≡ checked.Agrees v
 unfolding checking recordCheck
 agreed bytes lent c v r e t w d p =
-    ap (λ (x : Contents). checkedBy (readCheck bytes then tableCheck (cells (samplesOf x) (programHeld x)) lent) x
-    (verdictOf (programHeld x) (samplesOf x))) e
+    ap (λ (x : Contents). checkedBy (readCheck bytes then tableCheck (cells (x .samples) (programHeld x)) lent) x
+    (verdictOf (programHeld x) (x .samples))) e
     ∙ rw (r, t, w, eq-eqb (c .verdict) (verdictNumber (v .decision)) d, eq-eqb (c .passes) (v .passes) p)
 
 pub written-agrees : (before program trace : List ℕ) (n : ℕ) (label : List ℕ) (lent room : ℕ) → AreBytes program → length label ≡ labelBytes
@@ -156,6 +153,5 @@ written-agrees before program trace n label lent room are size e =
     let v = workedOut program trace n in
     let c = recorded program trace n label v in
     let s = recorded-stated program trace n label lent room are size e in
-    let same : samplesOf c ≡ samples trace n = recorded-samples program trace n label v in
     agreed (before ++ layout c) lent c v (layout-passed before c s) (contents-in before c s)
-    (rw same (table-fits program trace n label lent room are size e)) (rw same) refl refl
+    (table-fits program trace n label lent room are size e) refl refl refl

@@ -30,7 +30,7 @@ use Rattle.record.specs.declared.Written.{Written}
 use Rattle.record.specs.declared.Written.the-variants as written
 use Rattle.record.specs.Recording.{workedOut, recordOf, writeCheck, writing, outputWritten, tableWritten, writtenAnswer, writtenBy, RecordDemand3}
 use Rattle.record.proofs.Answers.{evaluation-passed}
-use Rattle.record.proofs.Recorded.{recorded-stated}
+use Rattle.record.proofs.Recorded.{recorded-stated, trace-packing}
 
 module _ (program trace : List ℕ) (n : ℕ) (label : List ℕ) (T out : List ℕ) where
   -- ---- The check
@@ -116,6 +116,7 @@ module _ (program trace : List ℕ) (n : ℕ) (label : List ℕ) (T out : List �
     stated = rw (← w) (recorded-stated program trace n label (length T) (length out) are l e)
 
     pub filled-written : {out′ : List ℕ} → length (recordOf program trace n label) ≤ length out
-        → out′ ≡ filled (recorded program trace n label v) out → out′ ≡ begins (layout (recorded program trace n label v)) out
+        → out′ ≡ filled program trace n label v out → out′ ≡ begins (layout (recorded program trace n label v)) out
     unfolding recordOf
-    filled-written h o = o ∙ filled-begins (recorded program trace n label v) out (stated .verdict) (rw (← w) h)
+    filled-written h o =
+        o ∙ filled-begins program trace n label v out (trace-packing program trace n label (length T) (length out) are l e) (stated .verdict) (rw (← w) h)

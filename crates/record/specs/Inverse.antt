@@ -3,7 +3,7 @@ use mathlib.Core.Path.{_≡_}
 use mathlib.Core.Logic.{_↔_}
 use mathlib.Core.List.{List, _++_}
 use Prim.Native.Nat.{ℕ}
-use lib.ListN.{take}
+use lib.ListN.{take, drop}
 use Rattle.layout.specs.declared.Parts.{Parts}
 use Rattle.layout.specs.declared.Reading.the-variants as read
 use Rattle.layout.specs.Form.{Contents, layout, Stated}
@@ -22,10 +22,20 @@ pub record EndsIn (bytes : List ℕ) (p : Parts) : Type 0 where
   pub stated : Stated (contentsAt bytes p)
   pub whole : bytes ≡ take (p .program .start) bytes ++ layout (contentsAt bytes p)
 
--- the bytes end in a record: in the stated layout of some contents that 2 to 17 leave
+-- the bytes end in a record: in the stated layout of some contents that 2, 3, 23 and 4 to 17 leave
 abbrev pub EndInRecord : List ℕ → Type 0
 EndInRecord bytes = (before : List ℕ) × (c : Contents) × Stated c × (bytes ≡ before ++ layout c)
 
 -- 'the reader accepts exactly the stated layout'
 abbrev pub AcceptsExactly : List ℕ → Type 0
 AcceptsExactly bytes = ((p : Parts) × (reading bytes ≡ read.Record p)) ↔ EndInRecord bytes
+
+-- a record's own bytes: from its program's first to its trailer's last, the last of all
+abbrev pub ownBytes : List ℕ → Parts → List ℕ
+ownBytes bytes p = drop (p .program .start) bytes
+
+-- 'two accepted records have equal contents exactly when their own bytes are equal', whatever stands before them
+abbrev pub SameExactly : List ℕ → List ℕ → Type 0
+SameExactly bytes bytes′ =
+    (p p′ : Parts) → reading bytes ≡ read.Record p → reading bytes′ ≡ read.Record p′
+    → (contentsAt bytes p ≡ contentsAt bytes′ p′) ↔ (ownBytes bytes p ≡ ownBytes bytes′ p′)

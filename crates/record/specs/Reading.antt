@@ -1,4 +1,5 @@
--- 'Reading' a record, of document 01: from the last byte backwards; its refusals, 1 to 17, and the parts it yields.
+-- 'Reading' a record, of documents 01 and 02: from the last byte backwards; its refusals, 1 to 3, 23 and 4 to 17, and the parts it
+-- yields.
 use Prim.Native.Nat.{ℕ}
 use mathlib.Core.List.{List, _∷_, []}
 use Rattle.refusal.specs.declared.Check.{Check}
@@ -9,7 +10,7 @@ use Rattle.layout.specs.declared.Reading.{Reading}
 use Rattle.layout.specs.declared.Reading.the-variants as read
 use Rattle.layout.specs.Trailer.{trailerCheck, partsIn, contentsIn, readBy}
 
--- 1 to 4, then 5 to 17 of the program
+-- 1 to 3, 23, 4, then 5 to 17 of the program
 unfoldable pub readCheck : List ℕ → Check
 readCheck bytes = trailerCheck bytes then programCheck (contentsIn bytes .program)
 

@@ -1,4 +1,4 @@
--- 'Recording', of document 01: its refusals (5 to 17, 20 to 22), its answer, what it leaves in the table and writes.
+-- 'Recording', of documents 01 and 02: its refusals (5 to 17, 20, 23, 21, 22), its answer, what it leaves in the table and writes.
 use Prim.Native.Nat.{ℕ}
 use mathlib.Core.Path.{_≡_}
 use mathlib.Core.List.{List, _∷_}
@@ -32,7 +32,7 @@ recordOf program trace n label = layout (recorded program trace n label (workedO
 abbrev pub roomCheck : List ℕ → List ℕ → ℕ → List ℕ → ℕ → Check
 roomCheck program trace n label room = refuseIf (ltb room (length (recordOf program trace n label))) OutputShort
 
--- 5 to 17, 20, 21, then 22
+-- 5 to 17, 20, 23, 21, then 22
 unfoldable pub writeCheck : List ℕ → List ℕ → ℕ → List ℕ → ℕ → ℕ → Check
 writeCheck program trace n label lent room = evaluateCheck program trace n lent then roomCheck program trace n label room
 

@@ -1,5 +1,5 @@
--- 'What is refused' of document 01: the number of each refusal, the refusal with a number, and which of several
--- applies.
+-- 'What is refused' of document 01, with the number that document 02 adds: the number of each refusal, the refusal with a
+-- number, and which of several applies.
 use Prim.Native.Nat.{ℕ, zero, suc}
 use mathlib.Core.Bool.{Bool, true, false, cond}
 use mathlib.Core.List.{List, [], _∷_}
@@ -57,14 +57,16 @@ numberOf TraceLength = 20
 numberOf TableShort = 21
 -- the output is shorter than what is to be written
 numberOf OutputShort = 22
+-- a bit above the last sample is set
+numberOf DeadBits = 23
 
--- the refusals in the order of the list
+-- the refusals in the order of the numbers
 abbrev pub refusals : List Refusal
 refusals =
     TrailerMissing ∷ MarkOrFormat ∷ TrailerFields ∷ VerdictOrPasses ∷ ProgramLength ∷ FunctionCount ∷
     HeaderCut ∷ ParameterKinds ∷ BodyLength ∷ BytesAfterFunctions ∷ MainKind ∷ BodyEnds ∷
     TooDeep ∷ ListConstructor ∷ UnknownByte ∷ WrongKind ∷ BytesAfterExpression ∷ RingLength ∷
-    RingState ∷ TraceLength ∷ TableShort ∷ OutputShort ∷ []
+    RingState ∷ TraceLength ∷ TableShort ∷ OutputShort ∷ DeadBits ∷ []
 
 -- the number of a check's answer; 0 stands for no refusal
 abbrev pub checkNumber : Check → ℕ
@@ -86,7 +88,7 @@ abbrev pub refuseIf : Bool → Refusal → Check
 refuseIf true f = Refused f
 refuseIf false f = Passed
 
--- 'in rising order': the first check that refuses decides
+-- 'in rising order', 23 'directly after 3 for records, after 20 for lent traces': the first check that refuses decides
 infixr 20 _then_
 abbrev pub _then_ : Check → Check → Check
 _then_ Passed next = next

@@ -1,9 +1,9 @@
-// The refusals of 'What is refused' in document 01. Each case has the number that the document gives
-// it, and no two cases have the same.
+// The refusals of 'What is refused' in document 01, and the one that document 02 adds. Each case has the number that
+// the document gives it, and no two cases have the same.
 ghost use mathlib.Core.Path.{_≡_};
 ghost use Rattle.refusal.specs.{numberOf, checkNumber, checkOf};
 
-// What is wrong, in the order of the list.
+// What is wrong, in the order of the numbers.
 pub enum Refusal {
     TrailerMissing,
     MarkOrFormat,
@@ -27,6 +27,7 @@ pub enum Refusal {
     TraceLength,
     TableShort,
     OutputShort,
+    DeadBits,
 }
 
 // The number of a refusal in the list.
@@ -56,6 +57,7 @@ pub fn number(refusal: Refusal) -> u32
         Refusal::TraceLength => 20,
         Refusal::TableShort => 21,
         Refusal::OutputShort => 22,
+        Refusal::DeadBits => 23,
     }
 }
 
@@ -102,6 +104,7 @@ pub fn numbered(number: usize) -> Check
         20 => Check::Refused(Refusal::TraceLength),
         21 => Check::Refused(Refusal::TableShort),
         22 => Check::Refused(Refusal::OutputShort),
+        23 => Check::Refused(Refusal::DeadBits),
         _ => Check::Passed,
     }
 }

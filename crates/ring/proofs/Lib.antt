@@ -4,3 +4,4 @@ pub mod Checks
 pub mod Answers
 pub mod Written
 pub mod Sequence
+pub mod Trace

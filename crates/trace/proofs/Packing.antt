@@ -2,8 +2,9 @@
 --   length-samples, samples-at      n packed samples are n, and the i-th is sample i
 --   sample-past                     a sample past the bytes is 0
 --   bytes-few                       a trace has at most 512 bytes
---   length-pack                     the bytes of a trace
---   samples-pack                    reading packed samples gives them back, whatever follows them
+--   length-pack, pack-byte          the bytes of a trace, and one of them
+--   pack-chunk                      the first is that of the first eight samples
+--   samples-pack, samples-packed    reading packed samples gives them back, whatever follows them
 --   write-past, write-stored        writing a sample past the bytes, and within them
 --   write-next                      writing the next sample into an output that holds the ones before it
 --   into-start, into-more           an output that samples are written into in order
@@ -11,7 +12,7 @@
 use mathlib.Core.Path.{_≡_, refl, sym, ap, _∙_}
 use mathlib.Core.Logic.{⊎-elim}
 use mathlib.Core.Bool.{Bool, false}
-use mathlib.Core.List.{List, [], _∷_, _++_}
+use mathlib.Core.List.{List, [], _∷_, _++_, append-nil}
 use Prim.Native.Nat.{ℕ, zero, suc, _+_, _*_, _-_, _/_, _%_, _^_, _<_, _≤_}
 use native.Mathlib.Nat.{eq-or-lt-of-le, zero-div}
 use native.Mathlib.Numerals.{add-one}
@@ -67,19 +68,21 @@ packed-at (suc k) bits (suc j) h =
     let e : 8 + 8 * j ≡ 8 * suc j = omega arith in
     packed-at k (drop 8 bits) j (omega arith) ∙ ap (λ (l : List Bool). binary (take 8 l)) (drop-drop (8 * j) 8 bits ∙ ap (λ (n : ℕ). drop n bits) e)
 
+pub pack-byte : (bits : List Bool) (rest : List ℕ) (j : ℕ) → j < bytesFor (length bits)
+    → getD (pack bits ++ rest) j 0 ≡ binary (take 8 (drop (8 * j) bits))
+unfolding pack
+pack-byte bits rest j h =
+    let k = bytesFor (length bits) in
+    List·getD-append (packed k bits) rest 0 j (omega (arith, length-packed k bits)) ∙ packed-at k bits j h
+
 -- sample i of packed samples is the i-th of them
 sample-pack : (bits : List Bool) (rest : List ℕ) (i : ℕ) → i < length bits → sampleAt (pack bits ++ rest) i ≡ getD bits i false
-unfolding sampleAt pack bytesFor
+unfolding sampleAt bytesFor
 sample-pack bits rest i h =
-    let k = (length bits + 7) / 8 in
     let j = i / 8 in
     let r = i % 8 in
-    let below : j < k = omega arith in
-    let within : j < length (packed k bits) = omega (arith, length-packed k bits) in
     let e : 8 * j + r ≡ i = omega arith in
-    let byte : getD (packed k bits ++ rest) j 0 ≡ binary (take 8 (drop (8 * j) bits)) =
-    List·getD-append (packed k bits) rest 0 j within ∙ packed-at k bits j below in
-    ap (bitOf r) byte
+    ap (bitOf r) (pack-byte bits rest j (omega arith))
     ∙ bit-binary (take 8 (drop (8 * j) bits)) r
     ∙ getD-take 8 (drop (8 * j) bits) r false (omega arith)
     ∙ getD-drop (8 * j) bits r false
@@ -94,6 +97,9 @@ samples-front bits rest (suc n) h =
 pub samples-pack : (bits : List Bool) (rest : List ℕ) → samples (pack bits ++ rest) (length bits) ≡ bits
 samples-pack bits rest = samples-front bits rest (length bits) (omega arith) ∙ take-all (length bits) bits (omega arith)
 
+pub samples-packed : (bits : List Bool) → samples (pack bits) (length bits) ≡ bits
+samples-packed bits = rw append-nil at (samples-pack bits [])
+
 -- ---- Writing
 
 pub write-past : (bytes : List ℕ) (i : ℕ) (b : Bool) → length bytes ≤ i / 8 → bytes ≡ withSample bytes i b
@@ -106,7 +112,7 @@ unfolding withSample
 write-stored bytes i b e = ap (set bytes (i / 8)) e
 
 -- the first eight samples are the first byte
-pack-chunk : (bits : List Bool) → 8 ≤ length bits → pack bits ≡ binary (take 8 bits) ∷ pack (drop 8 bits)
+pub pack-chunk : (bits : List Bool) → 8 ≤ length bits → pack bits ≡ binary (take 8 bits) ∷ pack (drop 8 bits)
 unfolding pack bytesFor packed
 pack-chunk bits h =
     let e : (length bits + 7) / 8 ≡ suc ((length (drop 8 bits) + 7) / 8) = omega (arith, length-drop 8 bits) in

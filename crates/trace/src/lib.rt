@@ -2,7 +2,7 @@
 // writing one sample is defined for every index; past the bytes nothing is read or written.
 ghost use mathlib.Core.Path.{_≡_};
 ghost use Prim.Native.Nat.{_<_};
-ghost use Rattle.trace.specs.{bytesFor, bitOf, sampleAt, withBit, withSample};
+ghost use Rattle.trace.specs.{bytesFor, bitOf, sampleAt, deadBits, withBit, withSample};
 
 // The most samples that a trace or a ring has.
 pub const MOST_SAMPLES: usize = 4095;
@@ -29,11 +29,27 @@ pub fn bit(number: u64, i: u64) -> bool
 pub fn sample(bytes: &[u8], i: usize) -> bool
     ensures { λ r. ⌜ r ≡ sampleAt (now (bytes .entry)) i ⌝ }
 {
-    let at = i / 8;
+    let place = i / 8;
+    if bytes.len() <= place {
+        return false;
+    }
+    (bytes[place] >> (i % 8)) % 2 == 1
+}
+
+// Whether a bit above the last of n samples is set, in the byte that it stands in. Where n is a multiple of 8 there are
+// no such bits.
+pub fn dead_bits(bytes: &[u8], n: usize) -> bool
+    ensures { λ r. ⌜ r ≡ deadBits (now (bytes .entry)) n ⌝ }
+{
+    let above = n % 8;
+    if above == 0 {
+        return false;
+    }
+    let at = n / 8;
     if bytes.len() <= at {
         return false;
     }
-    (bytes[at] >> (i % 8)) % 2 == 1
+    bytes[at] >> above != 0
 }
 
 // Writes sample i. The samples before it stay as they are; the bits above it in its byte become 0.

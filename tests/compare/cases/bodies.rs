@@ -65,7 +65,7 @@ pub fn run_longest(bench: &mut Bench) -> Compared {
 
 /// Compares the evaluation on the case's samples, and counts what is taken.
 fn compare(bench: &mut Bench, case: &Case) -> Compared {
-    let trace = traces::packed(&mut bench.random, &case.samples);
+    let trace = traces::packed(&case.samples);
     let table = traces::sufficient(&mut bench.random, case.cells);
     let cells = evaluation::table_left(bench, &case.program, &trace, table)?;
     let counted = bench.report.met.count(&case.program, &case.samples, &cells);
@@ -77,7 +77,7 @@ fn compare_more(bench: &mut Bench, program: &[u8]) -> Compared {
     let functions = program::check(program).expect("the program is accepted");
     let samples = traces::fitting(&mut bench.random, program);
     let needed = search::cells_needed(&functions, samples.len());
-    let trace = traces::packed(&mut bench.random, &samples);
+    let trace = traces::packed(&samples);
     let table = traces::sufficient(&mut bench.random, needed as usize);
     evaluation::compare(bench, program, &trace, table)
 }

@@ -10,7 +10,7 @@ pub fn run(bench: &mut Bench) -> Compared {
     let random = &mut bench.random;
     let program = programs::any(random, 10);
     let samples = traces::fitting(random, &program);
-    let mut trace = traces::packed(random, &samples);
+    let mut trace = traces::packed(&samples);
     if random.one_in(10) {
         traces::damage(random, &mut trace);
     }

@@ -1,6 +1,6 @@
 //! The limit of 16,777,216 cells, and numbers of cells that 32 bits do not hold.
 
-use super::super::generate::traces::{garbage, Trace};
+use super::super::generate::traces::{garbage, packed, Trace};
 use super::super::oracle::record::Content;
 use super::super::oracle::{program, search, MOST_CELLS};
 use super::{evaluation, record, Bench, Compared};
@@ -47,10 +47,7 @@ fn program_of(kinds: &[(u8, u8)]) -> Vec<u8> {
 
 /// A trace of so many samples, all 1.
 fn trace(n: usize) -> Trace {
-    Trace {
-        bytes: vec![0xFF; n.div_ceil(8)],
-        n: n as u64,
-    }
+    packed(&vec![true; n])
 }
 
 /// The cells a program needs.

@@ -1,4 +1,4 @@
-//! The cases that document 01 itself gives, with the answers it gives.
+//! The cases that documents 01 and 02 themselves give, with the answers they give.
 
 use super::super::generate::rings::Ring;
 use super::super::generate::traces::Trace;
@@ -45,6 +45,7 @@ pub fn run(bench: &mut Bench) -> Compared {
     refused(bench, H, 14)?;
     cells(bench)?;
     rings(bench)?;
+    dead_bits(bench)?;
     archives(bench)
 }
 
@@ -52,7 +53,7 @@ pub fn run(bench: &mut Bench) -> Compared {
 fn stated<T: PartialEq + std::fmt::Debug>(have: T, want: T) -> Compared {
     match have == want {
         true => Ok(()),
-        false => Err(format!("oracle gives {have:?}, document 01 {want:?}")),
+        false => Err(format!("oracle gives {have:?}, the documents {want:?}")),
     }
 }
 
@@ -91,6 +92,33 @@ fn cells(bench: &mut Bench) -> Compared {
     evaluation::compare(bench, A, &trace, vec![9; 4])
 }
 
+/// Each bit above the last sample of A's trace alone, lent and in a record.
+fn dead_bits(bench: &mut Bench) -> Compared {
+    for bit in 3..8 {
+        let trace = Trace {
+            bytes: vec![5 | 1 << bit],
+            n: 3,
+        };
+        let answer = oracle::evaluate(A, &trace.bytes, 3, &mut [9; 4]);
+        stated(answer.map(|_| ()), Err(23))?;
+        evaluation::compare(bench, A, &trace, vec![9; 4])?;
+        let mut archive = ARCHIVE.to_vec();
+        archive[A.len()] |= 1 << bit;
+        stated(oracle::record::read(&archive).map(|_| ()), Err(23))?;
+        record::compare_read(bench, &archive)?;
+        record::compare_check(bench, &archive, vec![9; 5])?;
+        let order = record::Order {
+            program: A.to_vec(),
+            trace,
+            label: [0; 8],
+            table: vec![9; 5],
+            out: vec![9; ARCHIVE.len()],
+        };
+        record::compare_write(bench, order)?;
+    }
+    Ok(())
+}
+
 /// Ring lengths at the limits.
 fn rings(bench: &mut Bench) -> Compared {
     for (length, number) in [(0, 18), (1, 0), (4_095, 0), (4_096, 18)] {
@@ -116,7 +144,7 @@ fn archives(bench: &mut Bench) -> Compared {
     let order = record::Order {
         program: A.to_vec(),
         trace: Trace {
-            bytes: vec![0xFD],
+            bytes: vec![5],
             n: 3,
         },
         label: [0; 8],

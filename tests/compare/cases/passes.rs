@@ -27,7 +27,10 @@ pub fn run(bench: &mut Bench) -> Compared {
 fn line(bench: &mut Bench) -> String {
     loop {
         let case = case(bench);
-        let trace = traces::packed(&mut bench.random, &case.samples);
+        let mut trace = traces::packed(&case.samples);
+        if bench.random.one_in(12) {
+            traces::set_dead_bits(&mut bench.random, &mut trace.bytes, trace.n);
+        }
         let table = table(bench, &case);
         let cells: Vec<String> = table.iter().map(u16::to_string).collect();
         let line = format!(

@@ -20,7 +20,7 @@ pub fn run_write(bench: &mut Bench) -> Compared {
     let random = &mut bench.random;
     let program = programs::any(random, 12);
     let samples = traces::fitting(random, &program);
-    let mut trace = traces::packed(random, &samples);
+    let mut trace = traces::packed(&samples);
     if random.one_in(15) {
         traces::damage(random, &mut trace);
     }

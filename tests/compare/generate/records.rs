@@ -19,7 +19,7 @@ pub fn content(random: &mut Random, damaged_in: usize) -> Content {
     let label = label(random);
     Content {
         program,
-        trace: traces::packed(random, &samples).bytes,
+        trace: trace::pack(&samples),
         n: samples.len() as u16,
         label,
         verdict,
@@ -78,6 +78,9 @@ fn piece(random: &mut Random) -> Vec<u8> {
 
 /// A record with damage to its content, its trailer or its length.
 fn damaged(random: &mut Random, content: &mut Content) -> Vec<u8> {
+    if random.one_in(4) {
+        traces::set_dead_bits(random, &mut content.trace, content.n.into());
+    }
     match random.below(8) {
         0 => content.verdict = random.pick(&[5, 6, 128, 255]),
         1 => content.passes = 0,

@@ -69,22 +69,33 @@ fn heavy(functions: &[program::Function], samples: &[bool], limits: &Limits) -> 
         || search::evaluate(functions, samples).visits > limits.visits
 }
 
-/// The samples as a lent trace, sometimes with dead bits set.
-pub fn packed(random: &mut Random, samples: &[bool]) -> Trace {
-    let mut bytes = trace::pack(samples);
-    let live = samples.len() % 8;
-    if live > 0 && random.one_in(2) {
-        let last = bytes.len() - 1;
-        bytes[last] |= random.byte() << live;
-    }
+/// The samples as a lent trace.
+pub fn packed(samples: &[bool]) -> Trace {
     Trace {
-        bytes,
+        bytes: trace::pack(samples),
         n: samples.len() as u64,
     }
 }
 
-/// A wrong length or number of samples; sometimes by chance still a right one.
+/// Sets a bit above the last of n samples, or some, if their last byte has any.
+pub fn set_dead_bits(random: &mut Random, bytes: &mut [u8], n: u64) {
+    let live = (n % 8) as usize;
+    if let (1.., Some(last)) = (live, bytes.last_mut()) {
+        *last |= 1 << random.between(live, 7);
+        if random.one_in(2) {
+            *last |= random.byte() << live;
+        }
+    }
+}
+
+/// Dead bits set, or a wrong length or number of samples, or both; sometimes by chance still a right trace.
 pub fn damage(random: &mut Random, trace: &mut Trace) {
+    if random.one_in(2) {
+        set_dead_bits(random, &mut trace.bytes, trace.n);
+        if !random.one_in(4) {
+            return;
+        }
+    }
     match random.below(7) {
         0 => trace.bytes.push(random.byte()),
         1 => {

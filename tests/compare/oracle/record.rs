@@ -97,9 +97,13 @@ fn layout(bytes: &[u8]) -> Result<Parts, u32> {
     if !lengths || first <= second || first > trailer {
         return Err(3);
     }
+    let (start, length) = (trailer - second, second - MIDDLE);
+    if trace::unpack(&bytes[start..start + length], n).is_none() {
+        return Err(23);
+    }
     let parts = Parts {
         program: (trailer - first, first - second),
-        trace: (trailer - second, second - MIDDLE),
+        trace: (start, length),
         n: n as u16,
         label: trailer - MIDDLE,
         verdict: bytes[trailer - 5],
@@ -117,7 +121,7 @@ pub fn check(bytes: &[u8], table: &mut [u16]) -> Result<(bool, Evaluation), u32>
     let (start, length) = parts.program;
     let functions = program::check(&bytes[start..start + length])?;
     let (start, length) = parts.trace;
-    let samples = trace::unpack(&bytes[start..start + length], parts.n.into()).ok_or(3u32)?;
+    let samples = trace::lent(&bytes[start..start + length], parts.n.into())?;
     let evaluation = fill(&functions, &samples, table)?;
     let agrees = evaluation.verdict == parts.verdict && evaluation.passes == parts.passes;
     Ok((agrees, evaluation))
@@ -138,10 +142,9 @@ pub fn write(
     if out.len() < length {
         return Err(22);
     }
-    let samples = trace::unpack(bytes, n).ok_or(20u32)?;
     let content = Content {
         program: program.to_vec(),
-        trace: trace::pack(&samples),
+        trace: bytes.to_vec(),
         n: n as u16,
         label,
         verdict: evaluation.verdict,

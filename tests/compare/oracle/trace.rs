@@ -18,11 +18,18 @@ pub fn pack(samples: &[bool]) -> Vec<u8> {
     bytes
 }
 
-/// The samples of a lent trace, or nothing if n or the length is wrong.
-pub fn unpack(bytes: &[u8], n: u64) -> Option<Vec<bool>> {
+/// The samples of the bytes that n of them take, or nothing if a bit above the last is set.
+pub fn unpack(bytes: &[u8], n: usize) -> Option<Vec<bool>> {
+    let bit = |place: usize| bytes[place / 8] >> (place % 8) & 1 == 1;
+    let mut samples: Vec<bool> = (0..8 * bytes.len()).map(bit).collect();
+    let above = samples.split_off(n);
+    (!above.contains(&true)).then_some(samples)
+}
+
+/// The samples of a lent trace: 20 if n or the length is wrong, then 23.
+pub fn lent(bytes: &[u8], n: u64) -> Result<Vec<bool>, u32> {
     if n > MOST_SAMPLES || bytes.len() != bytes_for(n as usize) {
-        return None;
+        return Err(20);
     }
-    let sample = |i: usize| bytes[i / 8] >> (i % 8) & 1 == 1;
-    Some((0..n as usize).map(sample).collect())
+    unpack(bytes, n as usize).ok_or(23)
 }

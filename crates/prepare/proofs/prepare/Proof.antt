@@ -8,7 +8,7 @@ use Rattle.rule.specs.declared.Outline.{Outline}
 use Rattle.rule.specs.Form.{Accepted}
 use Rattle.rule.proofs.Programs.{passed-accepted}
 use Rattle.passes.specs.Mirror.{functionsOf, totalOf}
-use Rattle.prepare.proofs.Preparing.{program-refused, trace-refused, table-left, trace-passed, total-is, settled}
+use Rattle.prepare.proofs.Preparing.{program-refused, length-refused, rest-left, length-passed, total-is, settled}
 use borrow.Author.Needs.{needs}
 use Rattle.prepare.proofs.prepare.Statement.{statement}
 use Rattle.prepare.proofs.prepare.Tie as tie
@@ -31,8 +31,8 @@ refused-requires c κs = search needs
 enum-told : tie.Need-enum-told
 enum-told c = search needs
 
-trace-check-requires : tie.Need-trace-check-requires
-trace-check-requires c κs = search needs
+length-check-requires : tie.Need-length-check-requires
+length-check-requires c κs = search needs
 
 enum-known-refusal : tie.Need-enum-known-refusal
 enum-known-refusal c = search needs
@@ -48,15 +48,18 @@ cast-cells-of c =
     let a = c .before .before .before .before .before .before .before .before .before .before .before .before .before .args in
     omega (
       arith,
-      trace-passed (a .n) (length (a .trace .now)) (c .before .before .before .before .before .before .trace-check .ensures)
+      length-passed (a .n) (length (a .trace .now)) (c .before .before .before .before .before .before .length-check .ensures)
           (c .before .before .before .before .enum-told2 .given .1) .0,
     )
 
 cells-of-requires : tie.Need-cells-of-requires
 cells-of-requires c κs = search needs
 
-table-check-requires : tie.Need-table-check-requires
-table-check-requires c κs = search needs
+dead-bits-requires : tie.Need-dead-bits-requires
+dead-bits-requires c κs = search needs
+
+rest-check-requires : tie.Need-rest-check-requires
+rest-check-requires c κs = search needs
 
 returns : tie.Need-returns
 returns c =
@@ -72,29 +75,29 @@ returns c =
 returns-2 : tie.Need-returns-2
 returns-2 c =
     let a = c .before .before .before .before .before .before .before .before .before .before .before .args in
-    let all = trace-refused (a .program .now) (a .trace .now) (a .n) (a .lent) (accepted (c .before .before .before .before .before) .1)
-    (c .before .before .before .before .trace-check .ensures) (c .before .before .refusal .given .1) in
+    let all = length-refused (a .program .now) (a .trace .now) (a .n) (a .lent) (accepted (c .before .before .before .before .before) .1)
+    (c .before .before .before .before .length-check .ensures) (c .before .before .refusal .given .1) in
     let judged = c .before .before .before .before .before .before .before .before .check-program .ensures in
     let passed = sym (judged .0) ∙ c .before .before .before .before .before .enum-told .given .1 in
-    let told = sym (c .before .before .before .before .trace-check .ensures) ∙ c .before .before .refusal .given .1 in
+    let told = sym (c .before .before .before .before .length-check .ensures) ∙ c .before .before .refusal .given .1 in
     let none = c .refused2 .ensures in
     (none .0 ∙ sym all, (λ e. absurd (refused (sym (none .0) ∙ e)), (none .1 ∙ judged .1, (none .2 ∙ rw (passed, told), none .3 ∙ rw (passed, told)))))
 
 returns-3 : tie.Need-returns-3
 returns-3 c =
-    let a = c .before .before .before .before .before .before .before .before .before .before .before .before .before .before .before .args in
-    let program = accepted (c .before .before .before .before .before .before .before .before .before) .1 in
-    let outline = c .before .before .before .before .before .before .before .before .before .before .before .before .check-program .ensures .1 in
-    let trace = c .before .before .before .before .before .before .before .before .trace-check .ensures in
-    let passed = c .before .before .before .before .before .before .enum-told2 .given .1 in
-    let few = trace-passed _ _ trace passed .0 in
-    let places = c .before .cells-of .ensures in
+    let a = c .before .before .before .before .before .before .before .before .before .before .before .before .before .before .before .before .args in
+    let program = accepted (c .before .before .before .before .before .before .before .before .before .before) .1 in
+    let outline = c .before .before .before .before .before .before .before .before .before .before .before .before .before .check-program .ensures .1 in
+    let trace = c .before .before .before .before .before .before .before .before .before .length-check .ensures in
+    let passed = c .before .before .before .before .before .before .before .enum-told2 .given .1 in
+    let few = length-passed _ _ trace passed .0 in
+    let places = c .before .before .cells-of .ensures in
     let total = total-is program outline (a .n) few (places .0) (places .1) (a .trace .now) in
-    let judged = sym (c .before .before .before .before .before .before .before .before .before .before .before .before .check-program .ensures .0) ∙ c .before .before .before .before .before .before .before .before .before .enum-told .given .1 in
+    let judged = sym (c .before .before .before .before .before .before .before .before .before .before .before .before .before .check-program .ensures .0) ∙ c .before .before .before .before .before .before .before .before .before .before .enum-told .given .1 in
     let told = sym trace ∙ passed in (
-      c .table-check .ensures ∙ sym (table-left (a .program .now) (a .trace .now) (a .n) (a .lent) program trace passed total),
+      c .rest-check .ensures ∙ sym (rest-left (a .program .now) (a .trace .now) (a .n) (a .lent) program trace passed (c .before .dead-bits .ensures) total),
       (
-        λ e. settled program outline (a .n) few (places .0) (places .1) (a .trace .now) (a .lent) trace passed (c .table-check .ensures) e,
+        λ e. settled program outline (a .n) few (places .0) (places .1) (a .trace .now) (a .lent) (c .before .dead-bits .result) trace passed (c .rest-check .ensures) e,
         (
           outline,
           (
@@ -113,13 +116,14 @@ prepare-spec =
     enum-known-check
     refused-requires
     enum-told
-    trace-check-requires
+    length-check-requires
     enum-known-refusal
     refused-requires-2
     enum-told-2
     cast-cells-of
     cells-of-requires
-    table-check-requires
+    dead-bits-requires
+    rest-check-requires
     returns
     returns-2
     returns-3)

@@ -5,6 +5,7 @@ use native.Mathlib.Omega.{arith}
 use lib.ListN.{length}
 use Rattle.refusal.specs.declared.Check.the-variants.{Passed}
 use Rattle.trace.specs.{mostSamples, bytesFor}
+use Rattle.trace.proofs.Packing.{length-samples}
 use Rattle.rule.specs.Form.{AreBytes}
 use Rattle.prepare.specs.Checks.{evaluateCheck}
 use Rattle.layout.specs.Filling.{recorded}
@@ -68,8 +69,9 @@ few-samples : (w : tie.After-verdict) → start w .args .n ≤ mostSamples
 unfolding recorded
 few-samples w =
     let a = start w .args in
-    stated (a .program .now) (a .trace .now) (a .n) (a .label) (a .table .now) (a .out .now) (are-bytes w) (label-size (start w)) (passes w)
-    (worked w .1) .few
+    let s = stated (a .program .now) (a .trace .now) (a .n) (a .label) (a .table .now) (a .out .now) (are-bytes w) (label-size (start w)) (passes w)
+    (worked w .1) in
+    rw (length-samples (a .trace .now) (a .n)) at (s .few)
 
 bytes-for-requires : tie.Need-bytes-for-requires
 bytes-for-requires c κs = search needs

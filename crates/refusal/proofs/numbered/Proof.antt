@@ -89,7 +89,10 @@ returns-22 : tie.Need-returns-22
 returns-22 c = sym (ap checkOf (c .match .keys22))
 
 returns-23 : tie.Need-returns-23
-returns-23 c = rest-passed (c .before .args .number) (c .match .rest)
+returns-23 c = sym (ap checkOf (c .match .keys23))
+
+returns-24 : tie.Need-returns-24
+returns-24 c = rest-passed (c .before .args .number) (c .match .rest)
 
 pub numbered-spec : {M : Type 1} → statement M
 numbered-spec =
@@ -117,4 +120,5 @@ numbered-spec =
     returns-20
     returns-21
     returns-22
-    returns-23)
+    returns-23
+    returns-24)
