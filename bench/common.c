@@ -109,7 +109,7 @@ uint32_t plain_check_program(const uint8_t *program, size_t program_len)
 /* ---- Evaluating */
 
 /* Whether a bit above the last of n samples is set. */
-static int dead_bits(const uint8_t *trace, unsigned n) { return n % 8 && trace[n / 8] >> n % 8; }
+static int padding_set(const uint8_t *trace, unsigned n) { return n % 8 && trace[n / 8] >> n % 8; }
 
 /* Gives each function its cells; answers how many there are in all. */
 static uint64_t lay_out(struct rule *r)
@@ -135,8 +135,8 @@ uint32_t begin(struct rule *r, const uint8_t *program, size_t program_len, const
         return number;
     if (n > MOST_SAMPLES || trace_len != (n + 7) / 8)
         return SIK_REFUSED_TRACE_LENGTH;
-    if (dead_bits(trace, n))
-        return SIK_REFUSED_DEAD_BITS;
+    if (padding_set(trace, n))
+        return SIK_REFUSED_PADDING_SET;
     r->trace = trace, r->table = table, r->n = n;
     cells = lay_out(r);
     if (cells > table_len || cells > MOST_CELLS)
@@ -178,8 +178,8 @@ static uint32_t read_parts(const uint8_t *bytes, size_t len, uint64_t parts[9])
     first = sixteen(trailer), second = sixteen(trailer + 2), n = sixteen(trailer + 4);
     if (n > MOST_SAMPLES || second != (n + 7) / 8 + AFTER_TRACE || first <= second || first > at)
         return SIK_REFUSED_TRAILER_FIELDS;
-    if (dead_bits(trailer - second, n))
-        return SIK_REFUSED_DEAD_BITS;
+    if (padding_set(trailer - second, n))
+        return SIK_REFUSED_PADDING_SET;
     passes = sixteen(trailer - 4) | (uint32_t)sixteen(trailer - 2) << 16;
     if (trailer[-5] > SIK_TAIL || passes == 0)
         return SIK_REFUSED_VERDICT_OR_PASSES;

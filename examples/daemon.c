@@ -60,7 +60,7 @@ static const char *const REFUSALS[] = {
     [SIK_REFUSED_TRACE_LENGTH] = "too many samples, or a trace of another length",
     [SIK_REFUSED_TABLE_SHORT] = "the table has too few cells for the rule",
     [SIK_REFUSED_OUTPUT_SHORT] = "the output is too short",
-    [SIK_REFUSED_DEAD_BITS] = "a bit above the last sample is set"};
+    [SIK_REFUSED_PADDING_SET] = "a bit above the last sample is set"};
 
 /* What is lent to the library. */
 static uint8_t slots[SLOTS], trace[TRACE], program[PROGRAM + 1], record[RECORD], archived[ARCHIVE];

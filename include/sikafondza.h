@@ -73,7 +73,7 @@ enum {
     SIK_REFUSED_TRACE_LENGTH = 20,           /* n is above 4,095, or the trace has not n / 8 rounded up bytes */
     SIK_REFUSED_TABLE_SHORT = 21,            /* the cells needed exceed the lent table or 16,777,216 */
     SIK_REFUSED_OUTPUT_SHORT = 22,           /* the output is shorter than what is to be written */
-    SIK_REFUSED_DEAD_BITS = 23               /* a bit above the last sample is set, in the last byte of a trace; where n is
+    SIK_REFUSED_PADDING_SET = 23               /* a bit above the last sample is set, in the last byte of a trace; where n is
                                                 a multiple of 8 there is none */
 };
 

@@ -47,7 +47,7 @@ IS(SIK_REFUSED_RING_STATE, 19);
 IS(SIK_REFUSED_TRACE_LENGTH, 20);
 IS(SIK_REFUSED_TABLE_SHORT, 21);
 IS(SIK_REFUSED_OUTPUT_SHORT, 22);
-IS(SIK_REFUSED_DEAD_BITS, 23);
+IS(SIK_REFUSED_PADDING_SET, 23);
 
 IS(SIK_RING_SIZE, 2);
 IS(SIK_EVALUATED_SIZE, 2);
@@ -116,10 +116,10 @@ static int wrong_places(void)
     wrong += parts[SIK_PARTS_BEFORE] != 1;
     wrong += check_record(out, 30, table, 4, checked) != 0 || checked[SIK_CHECKED_AGREEMENT] != SIK_AGREES;
     trace[0] |= 0x08, out[8] |= 0x80; /* a bit above the last sample, lent and in the record */
-    wrong += evaluate(program, 7, trace, 1, 3, table, 4, evaluated) != SIK_REFUSED_DEAD_BITS;
-    wrong += write_record(program, 7, trace, 1, 3, label, table, 4, out + 1, 63, written) != SIK_REFUSED_DEAD_BITS;
-    wrong += read_record(out, 30, parts) != SIK_REFUSED_DEAD_BITS;
-    wrong += check_record(out, 30, table, 4, checked) != SIK_REFUSED_DEAD_BITS;
+    wrong += evaluate(program, 7, trace, 1, 3, table, 4, evaluated) != SIK_REFUSED_PADDING_SET;
+    wrong += write_record(program, 7, trace, 1, 3, label, table, 4, out + 1, 63, written) != SIK_REFUSED_PADDING_SET;
+    wrong += read_record(out, 30, parts) != SIK_REFUSED_PADDING_SET;
+    wrong += check_record(out, 30, table, 4, checked) != SIK_REFUSED_PADDING_SET;
     return wrong;
 }
 

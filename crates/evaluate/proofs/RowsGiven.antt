@@ -2,7 +2,7 @@
 -- cells are lent.
 use mathlib.Core.Path.{_≡_, refl}
 use mathlib.Core.Bool.{true}
-use Rattle.trace.specs.{bitOf, bytesFor, sampleAt, samples, binary, pack, packed, deadBits}
+use Rattle.trace.specs.{bitOf, bytesFor, sampleAt, samples, binary, pack, packed, paddingSet}
 use Rattle.encoding.specs.{fromLow}
 use Rattle.semantics.specs.Cells.{outcomeIn}
 use Rattle.semantics.specs.Bodies.{bodyOutcome}
@@ -16,5 +16,5 @@ use Rattle.evaluate.specs.Evaluate.{evaluation}
 use Rattle.evaluate.specs.Rows.{rows, allGive}
 
 pub rows-given : allGive 4 rows ≡ true
-unfolding bitOf bytesFor sampleAt samples binary pack packed deadBits outcomeIn bodyOutcome lookup heldAt stored visit visits stores pass passStores tableAfter passesFrom passCount finalTable mainDecision verdictOf fromLow headerOf kindsFrom rawsFrom nodeOf argsFrom exprFrom functionsFrom programFrom evaluateCheck evaluation
+unfolding bitOf bytesFor sampleAt samples binary pack packed paddingSet outcomeIn bodyOutcome lookup heldAt stored visit visits stores pass passStores tableAfter passesFrom passCount finalTable mainDecision verdictOf fromLow headerOf kindsFrom rawsFrom nodeOf argsFrom exprFrom functionsFrom programFrom evaluateCheck evaluation
 rows-given = refl

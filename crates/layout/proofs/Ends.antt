@@ -10,7 +10,7 @@ use lib.ListN.{length, take, drop, take-append-drop, drop-of-length-le}
 use Rattle.refusal.specs.declared.Check.the-variants.{Passed}
 use Rattle.trace.specs.{pack}
 use Rattle.trace.proofs.Packing.{length-samples}
-use Rattle.trace.proofs.Dead.{clean-packed}
+use Rattle.trace.proofs.Padding.{clean-packed}
 use Rattle.rule.specs.Form.{AreBytes}
 use Rattle.rule.specs.Reading.{programCheck}
 use Rattle.rule.proofs.Programs.{passed-accepted}

@@ -13,7 +13,7 @@ use borrow.Author.Tests.{ltb-false, leb-false, eqb-true, eqb-false, not-false, l
 use Rattle.refusal.specs.declared.Check.the-variants.{Passed}
 use Rattle.refusal.proofs.Checks.{then-passed, refuse-passed, either-passed}
 use Rattle.rule.proofs.Tests.{neither}
-use Rattle.trace.specs.{mostSamples, bytesFor, deadBits}
+use Rattle.trace.specs.{mostSamples, bytesFor, paddingSet}
 use Rattle.layout.specs.Form.{format, mark, trailerBytes, afterTrace, mostVerdict}
 use Rattle.layout.specs.Trailer.{partOf, traceSpan, trailerAt, programDistanceIn, traceDistanceIn, samplesIn, formatIn, markIn, verdictIn, passesIn, fieldsFault, trailerCheck}
 
@@ -26,7 +26,7 @@ pub record Fields (bytes : List ℕ) : Type 0 where
   pub second : traceDistanceIn bytes ≡ bytesFor (samplesIn bytes) + afterTrace
   pub larger : traceDistanceIn bytes < programDistanceIn bytes
   pub before : programDistanceIn bytes ≤ trailerAt bytes
-  pub clean : deadBits (partOf bytes (traceSpan bytes)) (samplesIn bytes) ≡ false
+  pub clean : paddingSet (partOf bytes (traceSpan bytes)) (samplesIn bytes) ≡ false
   pub verdict : verdictIn bytes ≤ mostVerdict
   pub some : 1 ≤ passesIn bytes
 

@@ -17,9 +17,9 @@ use lib.Arith.{mod-mul}
 use lib.Dec.{eqb}
 use lib.ListN.{length, length-append}
 use borrow.Author.Tests.{le-leb, lt-leb, eq-eqb, eqb-true, not-true}
-use Rattle.trace.specs.{bytesFor, samples, pack, deadBits}
+use Rattle.trace.specs.{bytesFor, samples, pack, paddingSet}
 use Rattle.trace.proofs.Packing.{length-samples, length-pack}
-use Rattle.trace.proofs.Dead.{clean-packed}
+use Rattle.trace.proofs.Padding.{clean-packed}
 use Rattle.rule.specs.Form.{AreBytes}
 use Rattle.rule.proofs.Tests.{both}
 use Rattle.semantics.specs.declared.Verdict.{Verdict}
@@ -36,20 +36,20 @@ packed-size : (trace : List ℕ) (n : ℕ) → length (pack (samples trace n)) �
 packed-size trace n = length-pack (samples trace n) ∙ ap bytesFor (length-samples trace n)
 
 module _ (trace : List ℕ) (n : ℕ) where
-  pub is-packing : length trace ≡ bytesFor n → deadBits trace n ≡ false → isPacking trace n ≡ true
+  pub is-packing : length trace ≡ bytesFor n → paddingSet trace n ≡ false → isPacking trace n ≡ true
   unfolding isPacking
   is-packing e clean = rw (eq-eqb (length trace) (bytesFor n) e, clean)
 
   module _ (p : isPacking trace n ≡ true) where
-    tests : (eqb (length trace) (bytesFor n) ≡ true) × (not (deadBits trace n) ≡ true)
+    tests : (eqb (length trace) (bytesFor n) ≡ true) × (not (paddingSet trace n) ≡ true)
     unfolding isPacking
-    tests = both (eqb (length trace) (bytesFor n)) (not (deadBits trace n)) p
+    tests = both (eqb (length trace) (bytesFor n)) (not (paddingSet trace n)) p
 
     pub packing-size : length trace ≡ bytesFor n
     packing-size = eqb-true (length trace) (bytesFor n) (tests .0)
 
     pub packing-same : AreBytes trace → trace ≡ pack (samples trace n)
-    packing-same are = clean-packed trace n are packing-size (not-true (deadBits trace n) (tests .1))
+    packing-same are = clean-packed trace n are packing-size (not-true (paddingSet trace n) (tests .1))
 
 -- ---- The trailer, and the whole
 

@@ -11,7 +11,7 @@ use lib.ListN.{length, take, length-append}
 use lib.Seq.{take-at, drop-append-seam}
 use Rattle.trace.specs.{pack}
 use Rattle.trace.proofs.Packing.{bytes-few, length-pack, samples-packed}
-use Rattle.trace.proofs.Dead.{packed-clean}
+use Rattle.trace.proofs.Padding.{packed-clean}
 use Rattle.rule.specs.Form.{encode}
 use Rattle.encoding.specs.{lowFirst}
 use Rattle.encoding.proofs.Low.{length-low}

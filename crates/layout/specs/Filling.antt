@@ -4,7 +4,7 @@ use mathlib.Core.Bool.{Bool, cond, not, _&&_}
 use mathlib.Core.List.{List}
 use lib.Dec.{eqb, leb}
 use lib.ListN.{length}
-use Rattle.trace.specs.{bytesFor, samples, deadBits}
+use Rattle.trace.specs.{bytesFor, samples, paddingSet}
 use Rattle.semantics.specs.declared.Verdict.{Verdict}
 use Rattle.semantics.specs.Verdicts.{verdictNumber}
 use Rattle.encoding.specs.{put}
@@ -23,7 +23,7 @@ recorded program trace n label v =
 
 -- bytes that are those of n samples: as many as these take, with no bit above the last set
 unfoldable pub isPacking : List ℕ → ℕ → Bool
-isPacking trace n = eqb (length trace) (bytesFor n) && not (deadBits trace n)
+isPacking trace n = eqb (length trace) (bytesFor n) && not (paddingSet trace n)
 
 -- an output with a record at its front; where the trace is no packing, the verdict is above 4 or there is no room, the output is
 -- as it was

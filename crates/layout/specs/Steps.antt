@@ -5,9 +5,9 @@ use mathlib.Core.Bool.{_||_}
 use mathlib.Core.List.{List}
 use lib.Dec.{eqb, ltb}
 use lib.ListN.{getD}
-use Rattle.refusal.specs.declared.Refusal.the-variants.{VerdictOrPasses, DeadBits}
+use Rattle.refusal.specs.declared.Refusal.the-variants.{VerdictOrPasses, PaddingSet}
 use Rattle.refusal.specs.{refuseIf, _then_}
-use Rattle.trace.specs.{deadBits}
+use Rattle.trace.specs.{paddingSet}
 use Rattle.layout.specs.declared.Reading.{Reading}
 use Rattle.layout.specs.Form.{labelBytes, trailerBytes, afterTrace, mostVerdict}
 use Rattle.layout.specs.Trailer.{span, partOf, numberAt, readBy}
@@ -23,7 +23,7 @@ pub record Distances (len at first second : ℕ) : Type 0 where
 unfoldable pub partsStored : List ℕ → ℕ → ℕ → ℕ → ℕ → Reading
 partsStored bytes at first second n =
     readBy
-    (refuseIf (deadBits (partOf bytes (span (at - second) (second - afterTrace))) n) DeadBits
+    (refuseIf (paddingSet (partOf bytes (span (at - second) (second - afterTrace))) n) PaddingSet
     then refuseIf (ltb mostVerdict (getD bytes (at - 5) 0) || eqb (numberAt 4 (at - 4) bytes) 0) VerdictOrPasses)
     (record {
       program = span (at - first) (first - second);

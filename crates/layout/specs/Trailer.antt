@@ -4,11 +4,11 @@ use mathlib.Core.Bool.{Bool, not, _||_}
 use mathlib.Core.List.{List}
 use lib.Dec.{eqb, leb, ltb}
 use lib.ListN.{length, getD, take, drop}
-use Rattle.refusal.specs.declared.Refusal.the-variants.{TrailerMissing, MarkOrFormat, TrailerFields, VerdictOrPasses, DeadBits}
+use Rattle.refusal.specs.declared.Refusal.the-variants.{TrailerMissing, MarkOrFormat, TrailerFields, VerdictOrPasses, PaddingSet}
 use Rattle.refusal.specs.declared.Check.{Check}
 use Rattle.refusal.specs.declared.Check.the-variants as check
 use Rattle.refusal.specs.{refuseIf, _then_}
-use Rattle.trace.specs.{mostSamples, bytesFor, samples, deadBits}
+use Rattle.trace.specs.{mostSamples, bytesFor, samples, paddingSet}
 use Rattle.encoding.specs.{fromLow}
 use Rattle.layout.specs.declared.Span.{Span}
 use Rattle.layout.specs.declared.Parts.{Parts}
@@ -74,7 +74,7 @@ trailerCheck bytes =
     refuseIf (ltb (length bytes) trailerBytes) TrailerMissing
     then refuseIf (not (eqb (markIn bytes) mark) || not (eqb (formatIn bytes) format)) MarkOrFormat
     then refuseIf (fieldsFault (trailerAt bytes) (programDistanceIn bytes) (traceDistanceIn bytes) (samplesIn bytes)) TrailerFields
-    then refuseIf (deadBits (partOf bytes (traceSpan bytes)) (samplesIn bytes)) DeadBits
+    then refuseIf (paddingSet (partOf bytes (traceSpan bytes)) (samplesIn bytes)) PaddingSet
     then refuseIf (ltb mostVerdict (verdictIn bytes) || eqb (passesIn bytes) 0) VerdictOrPasses
 
 -- ---- The parts

@@ -12,7 +12,7 @@ pub fn is_packing(bytes: &[u8], n: usize) -> bool
     if bytes.len() != trace::bytes_for(n) {
         return false;
     }
-    !trace::dead_bits(bytes, n)
+    !trace::padding_set(bytes, n)
 }
 
 // The verdict byte and the pass count.

@@ -51,11 +51,11 @@ pub fn stored_parts(bytes: &[u8], at: usize, first: usize, second: usize, n: u16
         length: second - crate::AFTER_TRACE,
     };
     let count = n as usize;
-    let dead = trace::dead_bits(crate::part(bytes, trace), count);
+    let padding_set = trace::padding_set(crate::part(bytes, trace), count);
     let verdict = bytes[at - 5];
     let passes = thirty_two(bytes, at - 4);
-    if dead {
-        return Reading::Refused(Refusal::DeadBits);
+    if padding_set {
+        return Reading::Refused(Refusal::PaddingSet);
     }
     if crate::MOST_VERDICT < verdict {
         return Reading::Refused(Refusal::VerdictOrPasses);

@@ -18,9 +18,9 @@ use Rattle.refusal.specs.declared.Check.the-variants.{Passed, Refused}
 use Rattle.refusal.specs.{_then_}
 use Rattle.refusal.proofs.Numbers.{refused}
 use Rattle.refusal.proofs.Checks.{then-passed, refuse-passed, either-passed}
-use Rattle.trace.specs.{mostSamples, bytesFor, samples, pack, deadBits}
+use Rattle.trace.specs.{mostSamples, bytesFor, samples, pack, paddingSet}
 use Rattle.trace.proofs.Packing.{length-samples, length-pack}
-use Rattle.trace.proofs.Dead.{packed-clean}
+use Rattle.trace.proofs.Padding.{packed-clean}
 use Rattle.semantics.specs.Language.{Program}
 use Rattle.semantics.specs.Numbering.{cells, mostCells}
 use Rattle.rule.specs.declared.Outline.{Outline}
@@ -31,7 +31,7 @@ use Rattle.rule.specs.Reading.{Parsed, got, checkFrom, programFrom, programChec
 use Rattle.rule.specs.Reading as reading
 use Rattle.rule.proofs.Programs.{read-encoded}
 use Rattle.passes.specs.declared.setup.Cells.{Cells}
-use Rattle.prepare.specs.Checks.{lengthCheck, deadCheck, traceCheck, tableCheck, checkRead, evaluateCheck}
+use Rattle.prepare.specs.Checks.{lengthCheck, paddingCheck, traceCheck, tableCheck, checkRead, evaluateCheck}
 use Rattle.passes.specs.Mirror.{functionsOf, totalOf}
 use Rattle.prepare.specs.Settled.{Settled}
 use Rattle.passes.proofs.SetupLoops.{functions-of, total-of}
@@ -54,8 +54,8 @@ module _ (bytes trace : List ℕ) (n lent : ℕ) where
     pub length-refused : {c : Check} {f : Refusal} → c ≡ lengthCheck n (length trace) → c ≡ Refused f → evaluateCheck bytes trace n lent ≡ Refused f
     length-refused e q = rw (read, ← e, q)
 
-    pub rest-left : {c : Check} {dead : Bool} {total : ℕ} → c ≡ lengthCheck n (length trace) → c ≡ Passed → dead ≡ deadBits trace n
-        → total ≡ cells (samples trace n) P → evaluateCheck bytes trace n lent ≡ (deadCheck dead then tableCheck total lent)
+    pub rest-left : {c : Check} {set : Bool} {total : ℕ} → c ≡ lengthCheck n (length trace) → c ≡ Passed → set ≡ paddingSet trace n
+        → total ≡ cells (samples trace n) P → evaluateCheck bytes trace n lent ≡ (paddingCheck set then tableCheck total lent)
     rest-left e q d k = rw (read, ← e, q, d, k)
 
 pub length-passed : (n size : ℕ) {c : Check} → c ≡ lengthCheck n size → c ≡ Passed → (n ≤ mostSamples) × (size ≡ bytesFor n)
@@ -86,12 +86,12 @@ module _ {bytes : List ℕ} {P : Program} (a : Accepted bytes P) where
         ∙ total-of (outline .kinds) (outline .params) n (outline .functions) few (functions-few l)
         ∙ rw (outline-is l) (rw (length-samples trace n) at (total-means a (samples trace n)))
 
-    pub settled : (trace : List ℕ) (lent : ℕ) (dead : Bool) {c d : Check} → c ≡ lengthCheck n (length trace) → c ≡ Passed
-        → d ≡ (deadCheck dead then tableCheck (places .total) lent) → d ≡ Passed → Settled bytes trace n outline places lent
+    pub settled : (trace : List ℕ) (lent : ℕ) (set : Bool) {c d : Check} → c ≡ lengthCheck n (length trace) → c ≡ Passed
+        → d ≡ (paddingCheck set then tableCheck (places .total) lent) → d ≡ Passed → Settled bytes trace n outline places lent
     unfolding outlineOf
-    settled trace lent dead tc tp dc dp =
+    settled trace lent set tc tp dc dp =
         let t = length-passed n (length trace) tc tp in
-        let r = table-passed (places .total) lent refl (then-passed (deadCheck dead) _ (sym dc ∙ dp) .1) in
+        let r = table-passed (places .total) lent refl (then-passed (paddingCheck set) _ (sym dc ∙ dp) .1) in
         let total = total-is trace in
         record {
           program = P;
@@ -108,14 +108,14 @@ module _ {bytes : List ℕ} {P : Program} (a : Accepted bytes P) where
 -- ---- A trace
 
 pub trace-passed : (trace : List ℕ) (n : ℕ) → traceCheck trace n ≡ Passed
-    → (n ≤ mostSamples) × (length trace ≡ bytesFor n) × (deadBits trace n ≡ false)
+    → (n ≤ mostSamples) × (length trace ≡ bytesFor n) × (paddingSet trace n ≡ false)
 trace-passed trace n e =
     let both = then-passed (lengthCheck n (length trace)) _ e in
     let fits = length-passed n (length trace) refl (both .0) in
-    (fits .0, fits .1, refuse-passed (deadBits trace n) _ (both .1))
+    (fits .0, fits .1, refuse-passed (paddingSet trace n) _ (both .1))
 
 -- a trace that has its length and no bit above the last sample set
-pub trace-passes : (trace : List ℕ) (n : ℕ) → n ≤ mostSamples → length trace ≡ bytesFor n → deadBits trace n ≡ false → traceCheck trace n ≡ Passed
+pub trace-passes : (trace : List ℕ) (n : ℕ) → n ≤ mostSamples → length trace ≡ bytesFor n → paddingSet trace n ≡ false → traceCheck trace n ≡ Passed
 trace-passes trace n few size clean = rw (le-ltb mostSamples n few, eq-eqb (length trace) (bytesFor n) size, clean)
 
 pub packed-passes : (bits : List Bool) → length bits ≤ mostSamples → traceCheck (pack bits) (length bits) ≡ Passed

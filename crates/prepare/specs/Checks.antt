@@ -4,11 +4,11 @@ use mathlib.Core.Bool.{Bool, not, _||_}
 use mathlib.Core.List.{List}
 use lib.Dec.{eqb, ltb}
 use lib.ListN.{length}
-use Rattle.refusal.specs.declared.Refusal.the-variants.{TraceLength, TableShort, DeadBits}
+use Rattle.refusal.specs.declared.Refusal.the-variants.{TraceLength, TableShort, PaddingSet}
 use Rattle.refusal.specs.declared.Check.{Check}
 use Rattle.refusal.specs.declared.Check.the-variants as check
 use Rattle.refusal.specs.{refuseIf, _then_}
-use Rattle.trace.specs.{mostSamples, bytesFor, samples, deadBits}
+use Rattle.trace.specs.{mostSamples, bytesFor, samples, paddingSet}
 use Rattle.semantics.specs.Language.{Program}
 use Rattle.semantics.specs.Numbering.{cells, mostCells}
 use Rattle.rule.specs.Reading.{Parsed, got, refused, programFrom}
@@ -18,12 +18,12 @@ abbrev pub lengthCheck : ℕ → ℕ → Check
 lengthCheck n bytes = refuseIf (ltb mostSamples n || not (eqb bytes (bytesFor n))) TraceLength
 
 -- 23: 'a bit above the last sample is set'
-abbrev pub deadCheck : Bool → Check
-deadCheck dead = refuseIf dead DeadBits
+abbrev pub paddingCheck : Bool → Check
+paddingCheck set = refuseIf set PaddingSet
 
 -- of a lent trace: 20, and directly after it 23
 abbrev pub traceCheck : List ℕ → ℕ → Check
-traceCheck trace n = lengthCheck n (length trace) then deadCheck (deadBits trace n)
+traceCheck trace n = lengthCheck n (length trace) then paddingCheck (paddingSet trace n)
 
 -- 21: 'the cells needed exceed the lent table or 16,777,216'
 abbrev pub tableCheck : ℕ → ℕ → Check

@@ -10,7 +10,7 @@ ghost use Rattle.refusal.specs.declared.Check.the-variants as Check;
 ghost use Rattle.refusal.specs.{_then_};
 ghost use Rattle.rule.specs.Reading.{programFrom, programCheck};
 ghost use Rattle.rule.specs.Outline.{outlineFrom};
-ghost use Rattle.prepare.specs.Checks.{lengthCheck, deadCheck, tableCheck, evaluateCheck};
+ghost use Rattle.prepare.specs.Checks.{lengthCheck, paddingCheck, tableCheck, evaluateCheck};
 ghost use Rattle.prepare.specs.Settled.{Settled, functionsBy, totalBy};
 
 // The check of an evaluation, and where the functions and their cells stand. Of a program that is refused the outline is that of
@@ -40,7 +40,7 @@ pub fn prepare(program: &[u8], trace: &[u8], n: usize, lent: usize) -> Prepared
                 let kinds = outline.kinds;
                 let cells = setup::cells_of(outline.functions, &params, &kinds, n as u16);
                 Prepared {
-                    check: rest_check(trace::dead_bits(trace, n), cells.total, lent),
+                    check: padding_then_table(trace::padding_set(trace, n), cells.total, lent),
                     outline,
                     cells,
                 }
@@ -77,11 +77,11 @@ fn length_check(n: usize, bytes: usize) -> Check
 }
 
 // 23, then 21.
-fn rest_check(dead: bool, needed: u64, lent: usize) -> Check
-    ensures { λ r. ⌜ r ≡ (deadCheck dead then tableCheck needed lent) ⌝ }
+fn padding_then_table(padding: bool, needed: u64, lent: usize) -> Check
+    ensures { λ r. ⌜ r ≡ (paddingCheck padding then tableCheck needed lent) ⌝ }
 {
-    if dead {
-        return Check::Refused(Refusal::DeadBits);
+    if padding {
+        return Check::Refused(Refusal::PaddingSet);
     }
     if (lent as u64) < needed {
         return Check::Refused(Refusal::TableShort);

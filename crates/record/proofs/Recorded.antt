@@ -13,7 +13,7 @@ use lib.ListN.{length}
 use borrow.Author.Tests.{eq-eqb}
 use Rattle.refusal.specs.declared.Check.the-variants as check
 use Rattle.refusal.specs.{_then_}
-use Rattle.trace.specs.{mostSamples, bytesFor, samples, deadBits}
+use Rattle.trace.specs.{mostSamples, bytesFor, samples, paddingSet}
 use Rattle.trace.proofs.Packing.{length-samples}
 use Rattle.semantics.specs.declared.Outcome.{Outcome}
 use Rattle.semantics.specs.declared.Verdict.{Verdict}
@@ -61,7 +61,7 @@ record Seen (program trace : List ℕ) (n lent : ℕ) : Type 0 where
   accepted : Accepted program P
   few : n ≤ mostSamples
   size : length trace ≡ bytesFor n
-  clean : deadBits trace n ≡ false
+  clean : paddingSet trace n ≡ false
   table : tableCheck (cells (samples trace n) P) lent ≡ check.Passed
   fits : suc (cells (samples trace n) P) < 256 ^ 4
 

@@ -47,7 +47,7 @@ refusal-back refusal.RingState = refl
 refusal-back refusal.TraceLength = refl
 refusal-back refusal.TableShort = refl
 refusal-back refusal.OutputShort = refl
-refusal-back refusal.DeadBits = refl
+refusal-back refusal.PaddingSet = refl
 
 pub check-back : (c : Check) → checkOf (checkNumber c) ≡ c
 check-back Passed = refl

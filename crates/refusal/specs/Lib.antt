@@ -58,7 +58,7 @@ numberOf TableShort = 21
 -- the output is shorter than what is to be written
 numberOf OutputShort = 22
 -- a bit above the last sample is set
-numberOf DeadBits = 23
+numberOf PaddingSet = 23
 
 -- the refusals in the order of the numbers
 abbrev pub refusals : List Refusal
@@ -66,7 +66,7 @@ refusals =
     TrailerMissing ∷ MarkOrFormat ∷ TrailerFields ∷ VerdictOrPasses ∷ ProgramLength ∷ FunctionCount ∷
     HeaderCut ∷ ParameterKinds ∷ BodyLength ∷ BytesAfterFunctions ∷ MainKind ∷ BodyEnds ∷
     TooDeep ∷ ListConstructor ∷ UnknownByte ∷ WrongKind ∷ BytesAfterExpression ∷ RingLength ∷
-    RingState ∷ TraceLength ∷ TableShort ∷ OutputShort ∷ DeadBits ∷ []
+    RingState ∷ TraceLength ∷ TableShort ∷ OutputShort ∷ PaddingSet ∷ []
 
 -- the number of a check's answer; 0 stands for no refusal
 abbrev pub checkNumber : Check → ℕ

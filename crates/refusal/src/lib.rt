@@ -27,7 +27,7 @@ pub enum Refusal {
     TraceLength,
     TableShort,
     OutputShort,
-    DeadBits,
+    PaddingSet,
 }
 
 // The number of a refusal in the list.
@@ -57,7 +57,7 @@ pub fn number(refusal: Refusal) -> u32
         Refusal::TraceLength => 20,
         Refusal::TableShort => 21,
         Refusal::OutputShort => 22,
-        Refusal::DeadBits => 23,
+        Refusal::PaddingSet => 23,
     }
 }
 
@@ -104,7 +104,7 @@ pub fn numbered(number: usize) -> Check
         20 => Check::Refused(Refusal::TraceLength),
         21 => Check::Refused(Refusal::TableShort),
         22 => Check::Refused(Refusal::OutputShort),
-        23 => Check::Refused(Refusal::DeadBits),
+        23 => Check::Refused(Refusal::PaddingSet),
         _ => Check::Passed,
     }
 }

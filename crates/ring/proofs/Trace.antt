@@ -10,9 +10,9 @@ use native.Mathlib.Omega.{arith}
 use lib.ListN.{length, take, drop}
 use lib.Seq.{take-at}
 use Rattle.refusal.specs.declared.Check.the-variants.{Passed}
-use Rattle.trace.specs.{mostSamples, bytesFor, pack, deadBits, packedInto}
+use Rattle.trace.specs.{mostSamples, bytesFor, pack, paddingSet, packedInto}
 use Rattle.trace.proofs.Packing.{length-pack}
-use Rattle.trace.proofs.Dead.{packed-clean}
+use Rattle.trace.proofs.Padding.{packed-clean}
 use Rattle.ring.specs.declared.Ring.{Ring}
 use Rattle.ring.specs.{held, takeCheck, outputAfter}
 use Rattle.ring.specs.Place.{Sound}
@@ -37,7 +37,7 @@ module _ (slots : List ℕ) (ring : Ring) (out : List ℕ) (passed : takeCheck (
       let size : length (pack bits) ≡ bytesFor (ring .count) = length-pack bits ∙ ap bytesFor count in
       rw passed (take-at (pack bits) (drop (bytesFor (length bits)) out) (bytesFor (ring .count)) size)
 
-  pub taken-trace : (ring .count ≤ mostSamples) × (length taken ≡ bytesFor (ring .count)) × (deadBits taken (ring .count) ≡ false)
+  pub taken-trace : (ring .count ≤ mostSamples) × (length taken ≡ bytesFor (ring .count)) × (paddingSet taken (ring .count) ≡ false)
   taken-trace =
       let bits = held slots ring in (
         omega (arith, sound .few, sound .fits),

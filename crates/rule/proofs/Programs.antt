@@ -10,7 +10,7 @@ use mathlib.Core.Option.{some}
 use Prim.Native.Nat.{ℕ, suc, _≤_}
 use native.Mathlib.Omega.{arith}
 use lib.Dec.{eqb, ltb}
-use lib.ListN.{length, getElem?, getD, drop}
+use lib.ListN.{length, getElem?, getD, drop, drop-of-length-le}
 use borrow.Author.Tests.{ne-eqb, le-ltb, eqb-true, eqb-false, ltb-false, not-false}
 use Rattle.refusal.specs.declared.Check.the-variants.{Passed}
 use Rattle.refusal.proofs.Numbers.{refused}
@@ -67,10 +67,6 @@ read-encoded bytes P a =
 
 -- ---- Read, then written
 
-no-bytes : (bs : List ℕ) → length bs ≡ 0 → bs ≡ []
-no-bytes [] e = refl
-no-bytes (b ∷ bs) e = absurd (omega arith)
-
 first-byte : (bs : List ℕ) → (length bs ≡ 0 → ⊥) → bs ≡ getD bs 0 0 ∷ drop 1 bs
 first-byte [] filled = absurd (filled refl)
 first-byte (b ∷ bs) filled = refl
@@ -85,7 +81,7 @@ module _ (bytes : List ℕ) (P : Program) (rest : List ℕ) (are : AreBytes byte
       let ends = refused-inv (not (eqb (length after) 0)) _ _ P rest q in
       let main = refused-inv (not (mainFirst (headers xs))) _ _ P rest (ends .1) in
       let w = functions-inv (getD bytes 0 0) (drop 1 bytes) xs after P rest (bytes-drop 1 bytes are) p (main .1) in
-      let none : after ≡ [] = no-bytes after (eqb-true _ _ (not-false _ (ends .0))) in
+      let none : after ≡ [] = drop-of-length-le after {i = 0} (omega (arith, eqb-true (length after) 0 (not-false _ (ends .0)))) in
       let whole : bytes ≡ encode P = first-byte bytes filled ∙ rw (← w .count, w .bytes, none, append-nil) in
       let is-main = main-found (w .heads) (not-false _ (main .0)) in
       (record { encoded = whole; short = short; few = rw (w .count) few; fits = w .fits; main = is-main; kinds = w .kinds }, w .none)

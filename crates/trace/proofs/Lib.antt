@@ -1,3 +1,3 @@
 pub mod Bits
 pub mod Packing
-pub mod Dead
+pub mod Padding

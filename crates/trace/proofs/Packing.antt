@@ -1,9 +1,10 @@
 -- Laws of packed samples:
+--   next-byte, first-byte           where a sample stands: eight further on, the same bit of the next byte
 --   length-samples, samples-at      n packed samples are n, and the i-th is sample i
 --   sample-past                     a sample past the bytes is 0
 --   bytes-few                       a trace has at most 512 bytes
 --   length-pack, pack-byte          the bytes of a trace, and one of them
---   pack-chunk                      the first is that of the first eight samples
+--   pack-few, pack-chunk            up to eight samples are one byte, and the first eight are the first
 --   samples-pack, samples-packed    reading packed samples gives them back, whatever follows them
 --   write-past, write-stored        writing a sample past the bytes, and within them
 --   write-next                      writing the next sample into an output that holds the ones before it
@@ -21,6 +22,14 @@ use lib.ListN.{length, getD, take, drop, set, length-append, length-drop, List·
 use lib.Seq.{length-take-le, take-suc, take-all, take-append-le, drop-append-le, drop-drop, getD-take, getD-drop, getD-at, set-out}
 use Rattle.trace.specs.{mostSamples, bitOf, sampleAt, samples, digit, binary, bytesFor, packed, pack, packedInto, withBit, withSample}
 use Rattle.trace.proofs.Bits.{bit-binary, with-bit}
+
+-- ---- Places
+
+pub next-byte : (n m : ℕ) → n ≡ m + 8 → (n / 8 ≡ suc (m / 8)) × (n % 8 ≡ m % 8)
+next-byte n m h = (omega arith, omega arith)
+
+pub first-byte : (n : ℕ) → n < 8 → (n / 8 ≡ 0) × (n % 8 ≡ n)
+first-byte n h = (omega arith, omega arith)
 
 -- ---- Samples
 
@@ -111,6 +120,13 @@ pub write-stored : (bytes : List ℕ) (i : ℕ) (b : Bool) {v : ℕ} → v ≡ w
 unfolding withSample
 write-stored bytes i b e = ap (set bytes (i / 8)) e
 
+-- up to eight samples are one byte
+pub pack-few : (bits : List Bool) → 0 < length bits → length bits ≤ 8 → pack bits ≡ binary bits ∷ []
+unfolding pack bytesFor packed
+pack-few bits some few =
+    let e : (length bits + 7) / 8 ≡ 1 = omega arith in
+    rw (e, take-all 8 bits few)
+
 -- the first eight samples are the first byte
 pub pack-chunk : (bits : List Bool) → 8 ≤ length bits → pack bits ≡ binary (take 8 bits) ∷ pack (drop 8 bits)
 unfolding pack bytesFor packed
@@ -125,26 +141,23 @@ into-chunk x out bits h =
     let e : (length bits + 7) / 8 ≡ suc ((length (drop 8 bits) + 7) / 8) = omega (arith, length-drop 8 bits) in
     rw (pack-chunk bits h, e)
 
--- up to eight samples are one byte
 into-few : (x : ℕ) (out : List ℕ) (b : Bool) (bs : List Bool) → length bs < 8 → packedInto (x ∷ out) (b ∷ bs) ≡ binary (b ∷ bs) ∷ out
-unfolding packedInto pack bytesFor packed
+unfolding packedInto bytesFor
 into-few x out b bs h =
     let e : (suc (length bs) + 7) / 8 ≡ 1 = omega arith in
-    rw (e, take-all 7 bs (omega arith))
+    rw (pack-few (b ∷ bs) (omega arith) (omega arith), e)
 
 with-chunk : (x : ℕ) (out : List ℕ) (n m : ℕ) (b : Bool) → n ≡ m + 8 → withSample (x ∷ out) n b ≡ x ∷ withSample out m b
 unfolding withSample
 with-chunk x out n m b h =
-    let d : n / 8 ≡ suc (m / 8) = omega arith in
-    let r : n % 8 ≡ m % 8 = omega arith in
-    rw (d, r)
+    let at = next-byte n m h in
+    rw (at .0, at .1)
 
 with-few : (x : ℕ) (out : List ℕ) (n : ℕ) (b : Bool) → n < 8 → withSample (x ∷ out) n b ≡ withBit n x b ∷ out
 unfolding withSample
 with-few x out n b h =
-    let d : n / 8 ≡ 0 = omega arith in
-    let r : n % 8 ≡ n = omega arith in
-    rw (d, r)
+    let at = first-byte n h in
+    rw (at .0, at .1)
 
 into-first : (x : ℕ) (out : List ℕ) (b : Bool) → withSample (packedInto (x ∷ out) []) 0 b ≡ packedInto (x ∷ out) (b ∷ [])
 unfolding packedInto pack bytesFor packed withSample withBit binary

@@ -1,5 +1,5 @@
--- Traces of document 01, 'Ring and trace': what packed samples mean, and how samples are packed; and the dead bits of
--- document 02.
+-- Traces of document 01, 'Ring and trace': what packed samples mean, and how samples are packed; and padding bits, the
+-- 'dead bits' of document 02.
 use Prim.Native.Nat.{ℕ, zero, suc, _+_, _*_, _/_, _%_, _^_}
 use mathlib.Core.Bool.{Bool, true, false, not, _&&_}
 use mathlib.Core.List.{List, [], _∷_, _++_}
@@ -50,12 +50,12 @@ packed (suc k) bits = binary (take 8 bits) ∷ packed k (drop 8 bits)
 unfoldable pub pack : List Bool → List ℕ
 pack bits = packed (bytesFor (length bits)) bits
 
--- ---- Dead bits
+-- ---- Padding
 
 -- 23: 'a bit above the last sample is set'. The last n mod 8 of n samples stand in the lowest bits of a byte, and what stands above
 -- them in it is not 0; where n is a multiple of 8, 0 too, there are no such bits
-unfoldable pub deadBits : List ℕ → ℕ → Bool
-deadBits bytes n = not (eqb (n % 8) 0) && not (eqb (getD bytes (n / 8) 0 / 2 ^ (n % 8)) 0)
+unfoldable pub paddingSet : List ℕ → ℕ → Bool
+paddingSet bytes n = not (eqb (n % 8) 0) && not (eqb (getD bytes (n / 8) 0 / 2 ^ (n % 8)) 0)
 
 -- ---- Writing into a lent output
 

@@ -2,7 +2,7 @@
 // writing one sample is defined for every index; past the bytes nothing is read or written.
 ghost use mathlib.Core.Path.{_≡_};
 ghost use Prim.Native.Nat.{_<_};
-ghost use Rattle.trace.specs.{bytesFor, bitOf, sampleAt, deadBits, withBit, withSample};
+ghost use Rattle.trace.specs.{bytesFor, bitOf, sampleAt, paddingSet, withBit, withSample};
 
 // The most samples that a trace or a ring has.
 pub const MOST_SAMPLES: usize = 4095;
@@ -38,8 +38,8 @@ pub fn sample(bytes: &[u8], i: usize) -> bool
 
 // Whether a bit above the last of n samples is set, in the byte that it stands in. Where n is a multiple of 8 there are
 // no such bits.
-pub fn dead_bits(bytes: &[u8], n: usize) -> bool
-    ensures { λ r. ⌜ r ≡ deadBits (now (bytes .entry)) n ⌝ }
+pub fn padding_set(bytes: &[u8], n: usize) -> bool
+    ensures { λ r. ⌜ r ≡ paddingSet (now (bytes .entry)) n ⌝ }
 {
     let above = n % 8;
     if above == 0 {

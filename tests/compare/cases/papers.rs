@@ -45,7 +45,7 @@ pub fn run(bench: &mut Bench) -> Compared {
     refused(bench, H, 14)?;
     cells(bench)?;
     rings(bench)?;
-    dead_bits(bench)?;
+    padding_set(bench)?;
     archives(bench)
 }
 
@@ -93,7 +93,7 @@ fn cells(bench: &mut Bench) -> Compared {
 }
 
 /// Each bit above the last sample of A's trace alone, lent and in a record.
-fn dead_bits(bench: &mut Bench) -> Compared {
+fn padding_set(bench: &mut Bench) -> Compared {
     for bit in 3..8 {
         let trace = Trace {
             bytes: vec![5 | 1 << bit],

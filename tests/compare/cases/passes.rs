@@ -29,7 +29,7 @@ fn line(bench: &mut Bench) -> String {
         let case = case(bench);
         let mut trace = traces::packed(&case.samples);
         if bench.random.one_in(12) {
-            traces::set_dead_bits(&mut bench.random, &mut trace.bytes, trace.n);
+            traces::set_padding(&mut bench.random, &mut trace.bytes, trace.n);
         }
         let table = table(bench, &case);
         let cells: Vec<String> = table.iter().map(u16::to_string).collect();

@@ -79,7 +79,7 @@ fn piece(random: &mut Random) -> Vec<u8> {
 /// A record with damage to its content, its trailer or its length.
 fn damaged(random: &mut Random, content: &mut Content) -> Vec<u8> {
     if random.one_in(4) {
-        traces::set_dead_bits(random, &mut content.trace, content.n.into());
+        traces::set_padding(random, &mut content.trace, content.n.into());
     }
     match random.below(8) {
         0 => content.verdict = random.pick(&[5, 6, 128, 255]),

@@ -78,7 +78,7 @@ pub fn packed(samples: &[bool]) -> Trace {
 }
 
 /// Sets a bit above the last of n samples, or some, if their last byte has any.
-pub fn set_dead_bits(random: &mut Random, bytes: &mut [u8], n: u64) {
+pub fn set_padding(random: &mut Random, bytes: &mut [u8], n: u64) {
     let live = (n % 8) as usize;
     if let (1.., Some(last)) = (live, bytes.last_mut()) {
         *last |= 1 << random.between(live, 7);
@@ -88,10 +88,10 @@ pub fn set_dead_bits(random: &mut Random, bytes: &mut [u8], n: u64) {
     }
 }
 
-/// Dead bits set, or a wrong length or number of samples, or both; sometimes by chance still a right trace.
+/// Padding bits set, or a wrong length or number of samples, or both; sometimes by chance still a right trace.
 pub fn damage(random: &mut Random, trace: &mut Trace) {
     if random.one_in(2) {
-        set_dead_bits(random, &mut trace.bytes, trace.n);
+        set_padding(random, &mut trace.bytes, trace.n);
         if !random.one_in(4) {
             return;
         }

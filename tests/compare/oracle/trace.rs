@@ -8,7 +8,7 @@ pub fn bytes_for(n: usize) -> usize {
     n.div_ceil(8)
 }
 
-/// Packs samples, oldest first, the dead bits 0.
+/// Packs samples, oldest first, the bits above the last 0.
 pub fn pack(samples: &[bool]) -> Vec<u8> {
     let mut bytes = Vec::new();
     for group in samples.chunks(8) {

@@ -55,11 +55,11 @@ cast-cells-of c =
 cells-of-requires : tie.Need-cells-of-requires
 cells-of-requires c κs = search needs
 
-dead-bits-requires : tie.Need-dead-bits-requires
-dead-bits-requires c κs = search needs
+padding-set-requires : tie.Need-padding-set-requires
+padding-set-requires c κs = search needs
 
-rest-check-requires : tie.Need-rest-check-requires
-rest-check-requires c κs = search needs
+padding-then-table-requires : tie.Need-padding-then-table-requires
+padding-then-table-requires c κs = search needs
 
 returns : tie.Need-returns
 returns c =
@@ -95,9 +95,9 @@ returns-3 c =
     let total = total-is program outline (a .n) few (places .0) (places .1) (a .trace .now) in
     let judged = sym (c .before .before .before .before .before .before .before .before .before .before .before .before .before .check-program .ensures .0) ∙ c .before .before .before .before .before .before .before .before .before .before .enum-told .given .1 in
     let told = sym trace ∙ passed in (
-      c .rest-check .ensures ∙ sym (rest-left (a .program .now) (a .trace .now) (a .n) (a .lent) program trace passed (c .before .dead-bits .ensures) total),
+      c .padding-then-table .ensures ∙ sym (rest-left (a .program .now) (a .trace .now) (a .n) (a .lent) program trace passed (c .before .padding-set .ensures) total),
       (
-        λ e. settled program outline (a .n) few (places .0) (places .1) (a .trace .now) (a .lent) (c .before .dead-bits .result) trace passed (c .rest-check .ensures) e,
+        λ e. settled program outline (a .n) few (places .0) (places .1) (a .trace .now) (a .lent) (c .before .padding-set .result) trace passed (c .padding-then-table .ensures) e,
         (
           outline,
           (
@@ -122,8 +122,8 @@ prepare-spec =
     enum-told-2
     cast-cells-of
     cells-of-requires
-    dead-bits-requires
-    rest-check-requires
+    padding-set-requires
+    padding-then-table-requires
     returns
     returns-2
     returns-3)

@@ -13,12 +13,12 @@ returns : tie.Need-returns
 unfolding isPacking
 returns c = simp (sym (c .before .bytes-for .ensures), ne-eqb _ _ (c .if1 .taken))
 
-dead-bits-requires : tie.Need-dead-bits-requires
-dead-bits-requires c κs = search needs
+padding-set-requires : tie.Need-padding-set-requires
+padding-set-requires c κs = search needs
 
 returns-2 : tie.Need-returns-2
 unfolding isPacking
-returns-2 c = simp (sym (c .before .before .bytes-for .ensures), eq-eqb _ _ (c .before .if1 .left), c .dead-bits .ensures)
+returns-2 c = simp (sym (c .before .before .bytes-for .ensures), eq-eqb _ _ (c .before .if1 .left), c .padding-set .ensures)
 
 pub is-packing-spec : {M : Type 1} → statement M
-is-packing-spec = tie.close (tie.spec bytes-for-requires returns dead-bits-requires returns-2)
+is-packing-spec = tie.close (tie.spec bytes-for-requires returns padding-set-requires returns-2)

@@ -6,7 +6,7 @@ use Prim.Native.Nat.{ℕ, _-_}
 use lib.Dec.{ltb}
 use lib.ListN.{getD}
 use borrow.Author.Tests.{lt-ltb, le-ltb, eq-eqb, ne-eqb}
-use Rattle.trace.specs.{deadBits}
+use Rattle.trace.specs.{paddingSet}
 use Rattle.layout.specs.Form.{afterTrace, mostVerdict}
 use Rattle.layout.specs.Trailer.{partOf, span}
 use Rattle.layout.specs.Steps.{partsStored}
@@ -15,13 +15,13 @@ use Rattle.layout.proofs.trailer.stored_parts.Statement.{statement}
 use Rattle.layout.proofs.trailer.stored_parts.Tie as tie
 
 -- what was asked of the trace's bytes
-told : (c : tie.After-dead-bits) → let a = c .before .before .before .args in
-    deadBits (partOf (a .bytes .now) (span (a .at - a .second) (a .second - afterTrace))) (a .n) ≡ c .dead-bits .result
-told c = let a = c .before .before .before .args in sym (c .dead-bits .ensures ∙ ap (λ (l : List ℕ). deadBits l (a .n)) (c .before .part .ensures))
+told : (c : tie.After-padding-set) → let a = c .before .before .before .args in
+    paddingSet (partOf (a .bytes .now) (span (a .at - a .second) (a .second - afterTrace))) (a .n) ≡ c .padding-set .result
+told c = let a = c .before .before .before .args in sym (c .padding-set .ensures ∙ ap (λ (l : List ℕ). paddingSet l (a .n)) (c .before .part .ensures))
 
 -- what the first two tests left
 judged : (c : tie.Else2) → let a = c .before .before .before .before .before .before .before .args in
-    (deadBits (partOf (a .bytes .now) (span (a .at - a .second) (a .second - afterTrace))) (a .n) ≡ false)
+    (paddingSet (partOf (a .bytes .now) (span (a .at - a .second) (a .second - afterTrace))) (a .n) ≡ false)
     × (ltb mostVerdict (getD (a .bytes .now) (a .at - 5) 0) ≡ false)
 judged c = (told (c .before .before .before .before) ∙ c .before .if1 .left, le-ltb _ _ (c .if2 .left))
 
@@ -34,8 +34,8 @@ sub-thirty-two c = search needs
 part-requires : tie.Need-part-requires
 part-requires c κs = search needs
 
-dead-bits-requires : tie.Need-dead-bits-requires
-dead-bits-requires c κs = search needs
+padding-set-requires : tie.Need-padding-set-requires
+padding-set-requires c κs = search needs
 
 sub-verdict-2 : tie.Need-sub-verdict-2
 sub-verdict-2 c = search needs
@@ -81,7 +81,7 @@ stored-parts-spec =
     sub-verdict
     sub-thirty-two
     part-requires
-    dead-bits-requires
+    padding-set-requires
     sub-verdict-2
     shared-slice-read-verdict
     sub-thirty-two-2

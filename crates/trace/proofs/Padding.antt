@@ -1,5 +1,5 @@
 -- Laws of the bits above the last sample:
---   dead-whole, dead-told, dead-past     what the test comes to, one law for each way through it
+--   padding-whole, padding-told, padding-past     what the test comes to, one law for each way through it
 --   pack-clean, packed-clean             of packed samples none is set, whatever follows them
 --   clean-packed                         bytes of the right length with none set are the packing of their samples
 --   clean-exactly                        so of such bytes none is set exactly when they are that packing
@@ -11,35 +11,34 @@ use Prim.Native.Nat.{ℕ, zero, suc, _+_, _*_, _-_, _/_, _%_, _^_, _<_, _≤_}
 use native.Mathlib.Nat.{div-eq-of-lt, zero-div, mod-eq-of-lt}
 use native.Mathlib.Omega.{arith}
 use lib.Dec.{eqb, ltb}
-use lib.ListN.{length, getD, take, drop, length-drop, List·getD-eq-default}
+use lib.ListN.{length, getD, take, drop, length-drop, drop-of-length-le, List·getD-eq-default}
 use lib.Pow.{mod-pow-add, split}
 use lib.Seq.{take-all, take-at, drop-at}
 use borrow.Author.Tests.{eqb-true, eqb-false, eq-eqb, ne-eqb, ltb-true, ltb-false, not-false}
-use Rattle.trace.specs.{bitOf, sampleAt, samples, digit, binary, bytesFor, packed, pack, deadBits}
+use Rattle.trace.specs.{bitOf, sampleAt, samples, digit, binary, bytesFor, packed, pack, paddingSet}
 use Rattle.trace.proofs.Bits.{binary-bound, binary-snoc}
-use Rattle.trace.proofs.Packing.{length-samples, pack-byte, pack-chunk}
+use Rattle.trace.proofs.Packing.{next-byte, first-byte, length-samples, pack-byte, pack-few, pack-chunk}
 
 -- ---- The test
 
 module _ (bytes : List ℕ) (n : ℕ) where
-  pub dead-whole : n % 8 ≡ 0 → deadBits bytes n ≡ false
-  unfolding deadBits
-  dead-whole e = rw (eq-eqb (n % 8) 0 e)
+  pub padding-whole : n % 8 ≡ 0 → paddingSet bytes n ≡ false
+  unfolding paddingSet
+  padding-whole e = rw (eq-eqb (n % 8) 0 e)
 
-  pub dead-told : (n % 8 ≡ 0 → ⊥) → deadBits bytes n ≡ not (eqb (getD bytes (n / 8) 0 / 2 ^ (n % 8)) 0)
-  unfolding deadBits
-  dead-told h = rw (ne-eqb (n % 8) 0 h)
+  pub padding-told : (n % 8 ≡ 0 → ⊥) → paddingSet bytes n ≡ not (eqb (getD bytes (n / 8) 0 / 2 ^ (n % 8)) 0)
+  unfolding paddingSet
+  padding-told h = rw (ne-eqb (n % 8) 0 h)
 
-  pub dead-past : (n % 8 ≡ 0 → ⊥) → length bytes ≤ n / 8 → deadBits bytes n ≡ false
-  dead-past some h = dead-told some ∙ rw (List·getD-eq-default bytes 0 h, zero-div (2 ^ (n % 8)))
+  pub padding-past : (n % 8 ≡ 0 → ⊥) → length bytes ≤ n / 8 → paddingSet bytes n ≡ false
+  padding-past some h = padding-told some ∙ rw (List·getD-eq-default bytes 0 h, zero-div (2 ^ (n % 8)))
 
 -- the byte after the first is the first of the others
-dead-next : (b : ℕ) (bs : List ℕ) (n m : ℕ) → n ≡ m + 8 → deadBits (b ∷ bs) n ≡ deadBits bs m
-unfolding deadBits
-dead-next b bs n m h =
-    let d : n / 8 ≡ suc (m / 8) = omega arith in
-    let r : n % 8 ≡ m % 8 = omega arith in
-    rw (d, r)
+padding-next : (b : ℕ) (bs : List ℕ) (n m : ℕ) → n ≡ m + 8 → paddingSet (b ∷ bs) n ≡ paddingSet bs m
+unfolding paddingSet
+padding-next b bs n m h =
+    let at = next-byte n m h in
+    rw (at .0, at .1)
 
 -- ---- Packed samples
 
@@ -60,16 +59,16 @@ module _ (bits : List Bool) (rest : List ℕ) where
       let last = take 8 (drop (8 * (count / 8)) bits) in
       rw (pack-byte bits rest (count / 8) (omega arith)) (div-eq-of-lt (rw (last-few some) at (binary-bound last)))
 
-  pub pack-clean : deadBits (pack bits ++ rest) count ≡ false
+  pub pack-clean : paddingSet (pack bits ++ rest) count ≡ false
   pack-clean = go (eqb (count % 8) 0) refl
     where
-      go : (b : Bool) → eqb (count % 8) 0 ≡ b → deadBits (pack bits ++ rest) count ≡ false
-      go true e = dead-whole (pack bits ++ rest) count (eqb-true (count % 8) 0 e)
+      go : (b : Bool) → eqb (count % 8) 0 ≡ b → paddingSet (pack bits ++ rest) count ≡ false
+      go true e = padding-whole (pack bits ++ rest) count (eqb-true (count % 8) 0 e)
       go false e =
           let some = eqb-false (count % 8) 0 e in
-          dead-told (pack bits ++ rest) count some ∙ rw (last-clean some)
+          padding-told (pack bits ++ rest) count some ∙ rw (last-clean some)
 
-pub packed-clean : (bits : List Bool) → deadBits (pack bits) (length bits) ≡ false
+pub packed-clean : (bits : List Bool) → paddingSet (pack bits) (length bits) ≡ false
 packed-clean bits = rw append-nil at (pack-clean bits [])
 
 -- ---- Bytes of the right length
@@ -87,9 +86,8 @@ module _ (b : ℕ) (bs : List ℕ) where
   first-sample : (m : ℕ) → m < 8 → sampleAt (b ∷ bs) m ≡ bitOf m b
   unfolding sampleAt
   first-sample m h =
-      let d : m / 8 ≡ 0 = omega arith in
-      let r : m % 8 ≡ m = omega arith in
-      rw (d, r)
+      let at = first-byte m h in
+      rw (at .0, at .1)
 
   first-binary : (m : ℕ) → m ≤ 8 → binary (samples (b ∷ bs) m) ≡ b % 2 ^ m
   unfolding samples binary
@@ -106,9 +104,8 @@ module _ (b : ℕ) (bs : List ℕ) where
   next-sample : (n m : ℕ) → n ≡ m + 8 → sampleAt (b ∷ bs) n ≡ sampleAt bs m
   unfolding sampleAt
   next-sample n m h =
-      let d : n / 8 ≡ suc (m / 8) = omega arith in
-      let r : n % 8 ≡ m % 8 = omega arith in
-      rw (d, r)
+      let at = next-byte n m h in
+      rw (at .0, at .1)
 
   next-samples : (n m : ℕ) → n ≡ m + 8 → samples (b ∷ bs) n ≡ samples (b ∷ bs) 8 ++ samples bs m
   unfolding samples
@@ -117,43 +114,31 @@ module _ (b : ℕ) (bs : List ℕ) where
   next-samples (suc n) (suc m) h =
       rw (next-samples n m (omega arith), next-sample n m (omega arith)) (append-assoc (samples (b ∷ bs) 8) (samples bs m) (sampleAt bs m ∷ []))
 
--- fewer than eight samples are one byte
-pack-few : (bits : List Bool) → 0 < length bits → length bits < 8 → pack bits ≡ binary bits ∷ []
-unfolding pack bytesFor packed
-pack-few bits some few =
-    let e : (length bits + 7) / 8 ≡ 1 = omega arith in
-    rw (e, take-all 8 bits (omega arith))
-
 none-packed : [] ≡ pack (samples [] 0)
 unfolding pack bytesFor packed samples
 none-packed = refl
 
-none-left : (l : List ℕ) → length l ≡ 0 → l ≡ []
-none-left [] e = refl
-none-left (x ∷ l) e = absurd (omega arith)
-
 -- a byte whose bits above the n-th are 0
-low-byte : (b : ℕ) (bs : List ℕ) (n : ℕ) → 0 < n → n < 8 → deadBits (b ∷ bs) n ≡ false → b % 2 ^ n ≡ b
+low-byte : (b : ℕ) (bs : List ℕ) (n : ℕ) → 0 < n → n < 8 → paddingSet (b ∷ bs) n ≡ false → b % 2 ^ n ≡ b
 low-byte b bs n some few clean =
-    let d : n / 8 ≡ 0 = omega arith in
-    let r : n % 8 ≡ n = omega arith in
-    let told : not (eqb (b / 2 ^ n) 0) ≡ false = rw (d, r) at (sym (dead-told (b ∷ bs) n (λ e. omega arith)) ∙ clean) in
+    let at = first-byte n few in
+    let told : not (eqb (b / 2 ^ n) 0) ≡ false = rw (at .0, at .1) at (sym (padding-told (b ∷ bs) n (λ e. omega arith)) ∙ clean) in
     let above : b / 2 ^ n ≡ 0 = eqb-true (b / 2 ^ n) 0 (not-false (eqb (b / 2 ^ n) 0) told) in
     let whole : 0 * 2 ^ n + b % 2 ^ n ≡ b = rw above at (split b n) in
     omega arith
 
-pub clean-packed : (bytes : List ℕ) (n : ℕ) → ((i : ℕ) → getD bytes i 0 < 256) → length bytes ≡ bytesFor n → deadBits bytes n ≡ false
+pub clean-packed : (bytes : List ℕ) (n : ℕ) → ((i : ℕ) → getD bytes i 0 < 256) → length bytes ≡ bytesFor n → paddingSet bytes n ≡ false
     → bytes ≡ pack (samples bytes n)
 unfolding bytesFor
 clean-packed [] n are size clean = let none : n ≡ 0 = omega arith in rw none none-packed
 clean-packed (b ∷ bs) n are size clean =
-    go (ltb n 8) refl (λ long. clean-packed bs (n - 8) (λ i. are (suc i)) (omega arith) (sym (dead-next b bs n (n - 8) (omega arith)) ∙ clean))
+    go (ltb n 8) refl (λ long. clean-packed bs (n - 8) (λ i. are (suc i)) (omega arith) (sym (padding-next b bs n (n - 8) (omega arith)) ∙ clean))
   where
     few : 0 < n → n < 8 → b ∷ bs ≡ pack (samples (b ∷ bs) n)
     few some h =
         let bits = samples (b ∷ bs) n in
         let k : length bits ≡ n = length-samples (b ∷ bs) n in
-        ap (λ (l : List ℕ). b ∷ l) (none-left bs (omega arith))
+        ap (λ (l : List ℕ). b ∷ l) (drop-of-length-le bs {i = 0} (omega arith))
         ∙ ap (λ (x : ℕ). x ∷ []) (sym (first-binary b bs n (omega arith) ∙ low-byte b bs n some h clean))
         ∙ sym (pack-few bits (omega arith) (omega arith))
 
@@ -173,8 +158,8 @@ clean-packed (b ∷ bs) n are size clean =
     go false e others = let long : 8 ≤ n = ltb-false n 8 e in more (n - 8) (omega arith) (others long)
 
 pub clean-exactly : (bytes : List ℕ) (n : ℕ) → ((i : ℕ) → getD bytes i 0 < 256) → length bytes ≡ bytesFor n
-    → (deadBits bytes n ≡ false) ↔ (bytes ≡ pack (samples bytes n))
+    → (paddingSet bytes n ≡ false) ↔ (bytes ≡ pack (samples bytes n))
 clean-exactly bytes n are size = (clean-packed bytes n are size, clean)
   where
-    clean : bytes ≡ pack (samples bytes n) → deadBits bytes n ≡ false
-    clean e = ap (λ (l : List ℕ). deadBits l n) e ∙ (rw (length-samples bytes n) at (packed-clean (samples bytes n)))
+    clean : bytes ≡ pack (samples bytes n) → paddingSet bytes n ≡ false
+    clean e = ap (λ (l : List ℕ). paddingSet l n) e ∙ (rw (length-samples bytes n) at (packed-clean (samples bytes n)))

@@ -1,7 +1,7 @@
--- `rest_check` meets its contract: its tests are those of 23 and of 21, in this order.
+-- `padding_then_table` meets its contract: its tests are those of 23 and of 21, in this order.
 use borrow.Author.Tests.{lt-ltb, le-ltb}
-use Rattle.prepare.proofs.rest_check.Statement.{statement}
-use Rattle.prepare.proofs.rest_check.Tie as tie
+use Rattle.prepare.proofs.padding_then_table.Statement.{statement}
+use Rattle.prepare.proofs.padding_then_table.Tie as tie
 
 returns : tie.Need-returns
 returns c = simp (c .if1 .taken)
@@ -15,5 +15,5 @@ returns-3 c = simp (c .before .before .if1 .left, le-ltb _ _ (c .before .if2 .le
 returns-4 : tie.Need-returns-4
 returns-4 c = simp (c .before .before .if1 .left, le-ltb _ _ (c .before .if2 .left), le-ltb _ _ (c .if3 .left))
 
-pub rest-check-spec : {M : Type 1} → statement M
-rest-check-spec = tie.close (tie.spec returns returns-2 returns-3 returns-4)
+pub padding-then-table-spec : {M : Type 1} → statement M
+padding-then-table-spec = tie.close (tie.spec returns returns-2 returns-3 returns-4)
