@@ -25,7 +25,7 @@ static void fail(const char *what)
 /* What a call of one side gave, the table apart. */
 struct given {
     uint32_t number;
-    uint64_t answer[9];
+    uint64_t answer[SIK_PARTS_SIZE];
 };
 
 enum { SPOILT = 0xAAAA };
@@ -126,10 +126,33 @@ static void program_faults(struct tables *t, const struct bytes *program)
     }
 }
 
+enum {
+    TRAILER = 8,
+    VERDICT_TO_END = 13, /* verdict, pass count and trailer */
+    LABEL = 8,
+    MOST_RECORD = 4096 + 512 + LABEL + VERDICT_TO_END
+};
+
+/* A record of format 2 in format 1: with a label before the verdict, and distances that are larger by it. */
+static struct bytes labelled(const struct bytes *record, uint8_t out[MOST_RECORD])
+{
+    const size_t before = record->len - VERDICT_TO_END;
+    uint8_t *trailer = out + record->len + LABEL - TRAILER;
+    memcpy(out, record->at, before);
+    memcpy(out + before, "press 07", LABEL);
+    memcpy(out + before + LABEL, record->at + before, VERDICT_TO_END);
+    for (unsigned i = 0; i < 4; i += 2) {
+        const unsigned distance = (trailer[i] | trailer[i + 1] << 8) + LABEL;
+        trailer[i] = distance % 256, trailer[i + 1] = distance / 256;
+    }
+    trailer[6] = 1;
+    return (struct bytes){out, record->len + LABEL};
+}
+
 /* Records with one byte changed, or the first or the last ones missing. Short ones are checked as well as read. */
 static void record_faults(struct tables *t, const struct bytes *record)
 {
-    uint8_t copy[4096 + 512 + 21];
+    uint8_t copy[MOST_RECORD];
     memcpy(copy, record->at, record->len);
     for (size_t i = 0; i < record->len; i++) {
         read_record(t, copy, i);
@@ -213,6 +236,13 @@ static void agree_walk(struct tables *t, const struct bytes *archive)
     }
 }
 
+static void agree_record(struct tables *t, const struct bytes *record)
+{
+    if (read_record(t, record->at, record->len))
+        fail("a record is refused, or has bytes before it");
+    record_faults(t, record);
+}
+
 uint64_t agree(const struct workload *w, uint16_t *const table[SIDES])
 {
     struct tables t = {table, 0};
@@ -233,9 +263,10 @@ uint64_t agree(const struct workload *w, uint16_t *const table[SIDES])
         break;
     case READ:
         for (size_t i = 0; i < w->items; i++) {
-            if (read_record(&t, w->item[i].at, w->item[i].len))
-                fail("a record is refused, or has bytes before it");
-            record_faults(&t, &w->item[i]);
+            uint8_t out[MOST_RECORD];
+            struct bytes with_label = labelled(&w->item[i], out);
+            agree_record(&t, &w->item[i]);
+            agree_record(&t, &with_label);
         }
         break;
     }

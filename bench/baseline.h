@@ -14,7 +14,7 @@ uint32_t plain_check_program(const uint8_t *program, size_t program_len);
 uint32_t plain_evaluate(const uint8_t *program, size_t program_len, const uint8_t *trace, size_t trace_len, uint64_t n,
                         uint16_t *table, size_t table_len, uint64_t answer[3]);
 
-uint32_t plain_read_record(const uint8_t *bytes, size_t bytes_len, uint64_t parts[9]);
+uint32_t plain_read_record(const uint8_t *bytes, size_t bytes_len, uint64_t parts[SIK_PARTS_SIZE]);
 
 uint32_t plain_check_record(const uint8_t *bytes, size_t bytes_len, uint16_t *table, size_t table_len,
                             uint64_t answer[1]);

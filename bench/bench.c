@@ -12,6 +12,7 @@
 #include <stdlib.h>
 #include <time.h>
 #include "sides.h"
+#include "sikafondza.h"
 
 enum { TURNS = 11, MOST_TURNS = 1001, MORE_TURNS = 5, ALL_TURNS = MOST_TURNS * MORE_TURNS };
 
@@ -28,16 +29,17 @@ static double seconds(void)
 static uint64_t run(const struct side *s, const struct workload *w, uint16_t *table)
 {
     const struct bytes *item = w->item;
-    uint64_t parts[9] = {0}, answer[3] = {0}, sum = 0;
+    uint64_t parts[SIK_PARTS_SIZE] = {0}, answer[3] = {0}, sum = 0;
     switch (w->sort) {
     case EVALUATE:
         sum = s->evaluate(item[0].at, item[0].len, item[1].at, item[1].len, w->n, table, CELLS_LENT, answer);
         sum += answer[0] + 8 * answer[1];
         break;
     case WALK:
-        for (size_t left = item[0].len; left > 0 && !s->read_record(item[0].at, left, parts); left = parts[8]) {
+        for (size_t left = item[0].len; left > 0 && !s->read_record(item[0].at, left, parts);
+             left = parts[SIK_PARTS_BEFORE]) {
             sum += s->check_record(item[0].at, left, table, LISTING_CELLS, answer);
-            sum += 64 * answer[0] + 128 * parts[7];
+            sum += 64 * answer[0] + 128 * parts[SIK_PARTS_PASSES];
         }
         break;
     case CHECK:
@@ -47,7 +49,7 @@ static uint64_t run(const struct side *s, const struct workload *w, uint16_t *ta
     case READ:
         for (size_t i = 0; i < w->items; i++) {
             sum += s->read_record(item[i].at, item[i].len, parts);
-            sum += 64 * parts[7];
+            sum += 64 * parts[SIK_PARTS_PASSES];
         }
         break;
     }

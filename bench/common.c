@@ -10,7 +10,8 @@ enum {
     MOST_SAMPLES = 4095,
     MOST_CELLS = 16777216,
     TRAILER = 8,
-    AFTER_TRACE = 13
+    LABEL = 8,             /* of format 1, between the trace and the verdict */
+    VERDICT_AND_PASSES = 5 /* before the trailer */
 };
 
 static unsigned sixteen(const uint8_t *at) { return at[0] | at[1] << 8; }
@@ -164,42 +165,45 @@ void make_passes(const struct rule *r, uint32_t (*pass)(const struct rule *), ui
 /* ---- Records */
 
 /* Reads the record that the bytes end in; its program is not judged. */
-static uint32_t read_parts(const uint8_t *bytes, size_t len, uint64_t parts[9])
+static uint32_t read_parts(const uint8_t *bytes, size_t len, uint64_t parts[SIK_PARTS_SIZE])
 {
     const uint8_t *trailer;
-    size_t at, first, second, n;
+    size_t at, first, second, n, label, after_trace;
     uint32_t passes;
     if (len < TRAILER)
         return SIK_REFUSED_TRAILER_MISSING;
     at = len - TRAILER;
     trailer = bytes + at;
-    if (trailer[7] != 0x52 || trailer[6] != 1)
+    if (trailer[7] != 0x52 || (trailer[6] != 1 && trailer[6] != 2))
         return SIK_REFUSED_MARK_OR_FORMAT;
+    label = trailer[6] == 1 ? LABEL : 0, after_trace = label + VERDICT_AND_PASSES;
     first = sixteen(trailer), second = sixteen(trailer + 2), n = sixteen(trailer + 4);
-    if (n > MOST_SAMPLES || second != (n + 7) / 8 + AFTER_TRACE || first <= second || first > at)
+    if (n > MOST_SAMPLES || second != (n + 7) / 8 + after_trace || first <= second || first > at)
         return SIK_REFUSED_TRAILER_FIELDS;
     if (padding_set(trailer - second, n))
         return SIK_REFUSED_PADDING_SET;
     passes = sixteen(trailer - 4) | (uint32_t)sixteen(trailer - 2) << 16;
     if (trailer[-5] > SIK_TAIL || passes == 0)
         return SIK_REFUSED_VERDICT_OR_PASSES;
-    parts[0] = parts[8] = at - first;
-    parts[1] = first - second;
-    parts[2] = at - second;
-    parts[3] = second - AFTER_TRACE;
-    parts[4] = n;
-    parts[5] = at - AFTER_TRACE;
-    parts[6] = trailer[-5];
-    parts[7] = passes;
+    parts[SIK_PARTS_PROGRAM_START] = parts[SIK_PARTS_BEFORE] = at - first;
+    parts[SIK_PARTS_PROGRAM_LENGTH] = first - second;
+    parts[SIK_PARTS_TRACE_START] = at - second;
+    parts[SIK_PARTS_TRACE_LENGTH] = second - after_trace;
+    parts[SIK_PARTS_SAMPLES] = n;
+    parts[SIK_PARTS_LABEL_START] = label ? at - after_trace : 0;
+    parts[SIK_PARTS_LABEL_LENGTH] = label;
+    parts[SIK_PARTS_VERDICT] = trailer[-5];
+    parts[SIK_PARTS_PASSES] = passes;
+    parts[SIK_PARTS_FORMAT] = trailer[6];
     return 0;
 }
 
-uint32_t plain_read_record(const uint8_t *bytes, size_t bytes_len, uint64_t parts[9])
+uint32_t plain_read_record(const uint8_t *bytes, size_t bytes_len, uint64_t parts[SIK_PARTS_SIZE])
 {
-    uint64_t found[9];
+    uint64_t found[SIK_PARTS_SIZE];
     uint32_t number = read_parts(bytes, bytes_len, found);
     if (number == 0)
-        number = plain_check_program(bytes + found[0], found[1]);
+        number = plain_check_program(bytes + found[SIK_PARTS_PROGRAM_START], found[SIK_PARTS_PROGRAM_LENGTH]);
     if (number == 0)
         memcpy(parts, found, sizeof found);
     return number;
@@ -210,11 +214,14 @@ uint32_t check_record_by(uint32_t (*evaluate)(const uint8_t *, size_t, const uin
                          const uint8_t *bytes, size_t bytes_len, uint16_t *table, size_t table_len,
                          uint64_t answer[1])
 {
-    uint64_t found[9], verdict[3];
+    uint64_t found[SIK_PARTS_SIZE], verdict[3];
     uint32_t number = read_parts(bytes, bytes_len, found);
     if (number == 0)
-        number = evaluate(bytes + found[0], found[1], bytes + found[2], found[3], found[4], table, table_len, verdict);
+        number = evaluate(bytes + found[SIK_PARTS_PROGRAM_START], found[SIK_PARTS_PROGRAM_LENGTH],
+                          bytes + found[SIK_PARTS_TRACE_START], found[SIK_PARTS_TRACE_LENGTH],
+                          found[SIK_PARTS_SAMPLES], table, table_len, verdict);
     if (number == 0)
-        answer[0] = verdict[0] == found[6] && verdict[1] == found[7] ? SIK_AGREES : SIK_DIFFERS;
+        answer[0] =
+            verdict[0] == found[SIK_PARTS_VERDICT] && verdict[1] == found[SIK_PARTS_PASSES] ? SIK_AGREES : SIK_DIFFERS;
     return number;
 }

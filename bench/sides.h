@@ -18,8 +18,8 @@ enum { LIBRARY, PLAIN, DECODED, SIDES, READERS = DECODED };
 extern const struct side side[SIDES];
 
 /* Compares all that the sides answer and leave in a table of CELLS_LENT cells each: on the workload itself, on tables
- * and bytes cut short, and on bytes with one changed. Ends the program where they differ. Answers how many calls were
- * compared. */
+ * and bytes cut short, and on bytes with one changed; records to read are compared in both formats. Ends the program
+ * where they differ. Answers how many calls were compared. */
 uint64_t agree(const struct workload *w, uint16_t *const table[SIDES]);
 
 /* The same on random programs and traces. */

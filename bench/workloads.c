@@ -56,13 +56,12 @@ struct task {
 /* Writes a record to the front of out; answers its length. */
 static size_t record(struct task t, uint16_t *table, uint8_t *out, size_t len)
 {
-    static const uint8_t label[8] = {'s', 'i', 't', 'e', ' ', '1', 0, 0};
     uint8_t trace[sizeof mixed];
     uint64_t answer[3];
     uint32_t number;
     memcpy(trace, mixed, sizeof mixed);
     trace[t.n / 8] &= (1 << t.n % 8) - 1; /* no bit above the last sample */
-    number = sik_write_record(t.program.at, t.program.len, trace, (t.n + 7) / 8, t.n, label, table, CELLS_LENT, out, len,
+    number = sik_write_record(t.program.at, t.program.len, trace, (t.n + 7) / 8, t.n, table, CELLS_LENT, out, len,
                               answer);
     if (number) {
         fprintf(stderr, "a record is refused by %u\n", (unsigned)number);
@@ -71,9 +70,14 @@ static size_t record(struct task t, uint16_t *table, uint8_t *out, size_t len)
     return answer[0];
 }
 
-enum { ARCHIVE = 32768, LEAST = sizeof row_d + 21, LAST = LEAST + 511 };
+enum {
+    ARCHIVE = 32768,
+    VERDICT_TO_END = 13, /* verdict, pass count and trailer */
+    LEAST = sizeof row_d + VERDICT_TO_END,
+    LAST = LEAST + 511
+};
 
-static size_t record_len(struct task t) { return t.program.len + (t.n + 7) / 8 + 21; }
+static size_t record_len(struct task t) { return t.program.len + (t.n + 7) / 8 + VERDICT_TO_END; }
 
 struct archive {
     uint8_t *bytes;

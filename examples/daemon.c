@@ -7,7 +7,7 @@
  * Build:  make lib && cc -std=c99 -Ibuild/include examples/daemon.c -Lbuild/lib -lsikafondza -o daemon
  * Run:    ./daemon [-i] [-a ARCHIVE] [RULE ..]          (`make example` builds it and runs it with no arguments)
  *   -i          samples come from standard input, a character 0 or 1 each, white space apart; else from SAMPLES
- *   -a ARCHIVE  the file that records are appended to; else a temporary one, removed at the end
+ *   -a ARCHIVE  the file that records are appended to; else a temporary one with OLDER in it, removed at the end
  *   RULE        a rule in hexadecimal, such as "01 01 01 02 00 22 10"; with none, those of RULES
  * Exit status: 0; 1 for a wrong argument or sample, or a file that cannot be opened, read or written; 2 if a record
  * of the archive is refused or differs.
@@ -25,7 +25,7 @@ enum {
     TRACE = (SLOTS + 7) / 8,       /* bytes of the longest trace */
     CELLS = 16384,                 /* cells of the table: a rule that needs more is refused */
     PROGRAM = 4096,                /* bytes of the longest rule */
-    RECORD = PROGRAM + TRACE + 21, /* bytes of the longest record */
+    RECORD = PROGRAM + TRACE + 13, /* bytes of the longest record that is written */
     ARCHIVE = 1 << 20              /* bytes of the longest archive that this daemon reads back */
 };
 
@@ -35,11 +35,14 @@ static const struct { const char *name, *hex; } RULES[] = {
     {"not every sample is 1", "02 01 01 05 00 23 81 10 00 01 01 01 0B 00 23 22 10 01 23 20 10 81 21 10 00"},
     {"every sample is 1, but tl forgotten", "01 01 01 0A 00 23 22 10 01 23 20 10 80 10 00"},
     {"a list with a sample in front", "01 01 01 04 00 22 24 01 10"}};
-static const uint8_t LABEL[8] = {'P', 'R', 'E', 'S', 'S', '-', '0', '7'}; /* the site's */
+/* A record of format 1, such as older archives hold: the first rule on nine samples, with the label PRESS-07. */
+static const uint8_t OLDER[] = {0x01, 0x01, 0x01, 0x0B, 0x00, 0x23, 0x22, 0x10, 0x01, 0x23, 0x20, 0x10, 0x80,
+                                0x21, 0x10, 0x00, 0xFF, 0x01, 'P',  'R',  'E',  'S',  'S',  '-',  '0',  '7',
+                                0x02, 0x02, 0x00, 0x00, 0x00, 0x1F, 0x00, 0x0F, 0x00, 0x09, 0x00, 0x01, 0x52};
 static const char *const VERDICTS[] = {"forever", "no", "yes", "head of empty", "tail of empty"};
 static const char *const REFUSALS[] = {
     [SIK_REFUSED_TRAILER_MISSING] = "too few bytes for a trailer",
-    [SIK_REFUSED_MARK_OR_FORMAT] = "not the end of a record of format 1",
+    [SIK_REFUSED_MARK_OR_FORMAT] = "not the end of a record of format 1 or 2",
     [SIK_REFUSED_TRAILER_FIELDS] = "the lengths in the trailer do not fit",
     [SIK_REFUSED_VERDICT_OR_PASSES] = "no such verdict, or a pass count of 0",
     [SIK_REFUSED_PROGRAM_LENGTH] = "the rule is empty or too long",
@@ -126,6 +129,13 @@ static int read_hex(const char *text)
     return len;
 }
 
+static int append(const uint8_t *bytes, size_t len, FILE *archive)
+{
+    if (fseek(archive, 0, SEEK_END) != 0 || fwrite(bytes, 1, len, archive) != len || fflush(archive) != 0)
+        return fail("the archive cannot be written", strerror(errno));
+    return 0;
+}
+
 /* Checks, evaluates and records a rule. A refused rule leaves no record, and is no failure of the daemon. */
 static int run_rule(const char *name, const char *hex, FILE *archive)
 {
@@ -139,13 +149,10 @@ static int run_rule(const char *name, const char *hex, FILE *archive)
         return 0;
     printf("%s, passes %" PRIu64 "\n  recorded: ", VERDICTS[evaluated[SIK_EVALUATED_VERDICT]],
            evaluated[SIK_EVALUATED_PASSES]);
-    if (refused(sik_write_record(program, len, trace, trace_len, samples, LABEL, table, CELLS, record, RECORD, written)))
+    if (refused(sik_write_record(program, len, trace, trace_len, samples, table, CELLS, record, RECORD, written)))
         return 0;
-    const size_t record_len = (size_t)written[SIK_WRITTEN_LENGTH];
-    printf("bytes %zu\n", record_len);
-    if (fseek(archive, 0, SEEK_END) != 0 || fwrite(record, 1, record_len, archive) != record_len || fflush(archive) != 0)
-        return fail("the archive cannot be written", strerror(errno));
-    return 0;
+    printf("bytes %" PRIu64 "\n", written[SIK_WRITTEN_LENGTH]);
+    return append(record, (size_t)written[SIK_WRITTEN_LENGTH], archive);
 }
 
 /* Reads the whole archive from its file. */
@@ -156,6 +163,15 @@ static int read_archive(FILE *archive)
     if (failed || ferror(archive))
         return fail("the archive cannot be read", strerror(errno));
     return archived_len < ARCHIVE ? 0 : fail("the archive cannot be read", "it is too long");
+}
+
+/* Tells the label of the record that was read, or that it has none. */
+static void tell_label(void)
+{
+    const uint8_t *label = archived + parts[SIK_PARTS_LABEL_START];
+    fputs(parts[SIK_PARTS_LABEL_LENGTH] == 0 ? "no label" : "label ", stdout);
+    for (uint64_t i = 0; i < parts[SIK_PARTS_LABEL_LENGTH]; i++)
+        putchar(isprint(label[i]) ? label[i] : '.');
 }
 
 /* Walks the archive from its end and checks each record; answers 0 if all agree, else 2. A record that cannot be
@@ -169,10 +185,8 @@ static int walk(void)
         printf("record %d from the end: ", ++records);
         if (refused(sik_read_record(archived, len, parts)))
             return 2;
-        const uint8_t *label = archived + parts[SIK_PARTS_LABEL_START];
-        printf("bytes %" PRIu64 ", label ", len - parts[SIK_PARTS_BEFORE]);
-        for (size_t i = 0; i < sizeof LABEL; i++)
-            putchar(isprint(label[i]) ? label[i] : '.');
+        printf("bytes %" PRIu64 ", ", len - parts[SIK_PARTS_BEFORE]);
+        tell_label();
         printf(", samples %" PRIu64 ", %s, passes %" PRIu64 ": ", parts[SIK_PARTS_SAMPLES],
                VERDICTS[parts[SIK_PARTS_VERDICT]], parts[SIK_PARTS_PASSES]);
         if (refused(sik_check_record(archived, len, table, CELLS, checked)))
@@ -202,7 +216,7 @@ int main(int argc, char **argv)
     FILE *archive = path != NULL ? fopen(path, "a+b") : tmpfile();
     if (archive == NULL)
         return fail("the archive cannot be opened", strerror(errno));
-    if (read_archive(archive) != 0)
+    if ((path == NULL && append(OLDER, sizeof OLDER, archive) != 0) || read_archive(archive) != 0)
         return 1;
     if (archived_len > 0 && sik_read_record(archived, archived_len, parts) != 0) {
         puts("nothing is appended: the archive does not end in a record");

@@ -18,9 +18,9 @@
 #include <stddef.h>
 #include <stdint.h>
 
-/* The version of the library, as numbers and as a text such as "1.1.0". */
-#define SIK_VERSION_MAJOR 1
-#define SIK_VERSION_MINOR 1
+/* The version of the library, as numbers and as a text such as "2.0.0". */
+#define SIK_VERSION_MAJOR 2
+#define SIK_VERSION_MINOR 0
 #define SIK_VERSION_PATCH 0
 #define SIK_VERSION \
     SIK_VERSION_TEXT(SIK_VERSION_MAJOR) "." SIK_VERSION_TEXT(SIK_VERSION_MINOR) "." SIK_VERSION_TEXT(SIK_VERSION_PATCH)
@@ -49,10 +49,10 @@ enum {
  */
 enum {
     SIK_REFUSED_TRAILER_MISSING = 1,         /* fewer than eight bytes remain for a trailer */
-    SIK_REFUSED_MARK_OR_FORMAT = 2,          /* the mark is not 0x52 or the format is not 1 */
-    SIK_REFUSED_TRAILER_FIELDS = 3,          /* n is above 4,095, the second distance is not n / 8 rounded up plus 13,
-                                                the first is not larger than the second, or the first exceeds the
-                                                bytes before the trailer */
+    SIK_REFUSED_MARK_OR_FORMAT = 2,          /* the mark is not 0x52 or the format is neither 1 nor 2 */
+    SIK_REFUSED_TRAILER_FIELDS = 3,          /* n is above 4,095, the second distance is not n / 8 rounded up plus 13 in
+                                                format 1 or plus 5 in format 2, the first is not larger than the
+                                                second, or the first exceeds the bytes before the trailer */
     SIK_REFUSED_VERDICT_OR_PASSES = 4,       /* the verdict byte is above 4 or the pass count is 0 */
     SIK_REFUSED_PROGRAM_LENGTH = 5,          /* the program is empty or longer than 4,096 bytes */
     SIK_REFUSED_FUNCTION_COUNT = 6,          /* the function count is 0 or above 32 */
@@ -137,17 +137,16 @@ enum {
     SIK_WRITTEN_SIZE = 3
 };
 
-/* Evaluates as sik_evaluate does, and writes a record of it to the front of out: program, trace, label, verdict,
+/* Evaluates as sik_evaluate does, and writes a record of it, of format 2, to the front of out: program, trace, verdict,
  * pass count, trailer (docs/FORMAT.md). The trace's bytes are written as they are. Bytes past the record keep their
- * content. To append to an archive, lend the bytes after its last.
+ * content. To append to an archive, of records of either format, lend the bytes after its last.
  *   program, trace, n, table   as for sik_evaluate
- *   label                      the site's label, eight bytes; zeros if unset
- *   out                        at least program_len + n / 8 rounded up + 21 bytes
+ *   out                        at least program_len + n / 8 rounded up + 13 bytes
  *   answer                     becomes the record's length, the verdict and the pass count
  * Refusals: 5 to 17, 20, 23, 21, 22. On 22 too the table is as it was.
  */
 uint32_t sik_write_record(const uint8_t *program, size_t program_len, const uint8_t *trace, size_t trace_len, uint64_t n,
-                          const uint8_t label[8], uint16_t *table, size_t table_len, uint8_t *out, size_t out_len,
+                          uint16_t *table, size_t table_len, uint8_t *out, size_t out_len,
                           uint64_t answer[SIK_WRITTEN_SIZE]);
 
 /* The parts of a record, as places and lengths in the bytes that it was read from. */
@@ -156,16 +155,19 @@ enum {
     SIK_PARTS_PROGRAM_LENGTH = 1,
     SIK_PARTS_TRACE_START = 2, /* the trace's first byte */
     SIK_PARTS_TRACE_LENGTH = 3,
-    SIK_PARTS_SAMPLES = 4,     /* n, the number of samples */
-    SIK_PARTS_LABEL_START = 5, /* the first of the eight bytes of the label */
-    SIK_PARTS_VERDICT = 6,     /* the stored verdict (SIK_FOREVER to SIK_TAIL) */
-    SIK_PARTS_PASSES = 7,      /* the stored pass count */
-    SIK_PARTS_BEFORE = 8,      /* how many bytes stand before the record: an archive is walked by reading those next */
-    SIK_PARTS_SIZE = 9
+    SIK_PARTS_SAMPLES = 4,       /* n, the number of samples */
+    SIK_PARTS_LABEL_START = 5,   /* the label's first byte; 0 where there is no label */
+    SIK_PARTS_VERDICT = 6,       /* the stored verdict (SIK_FOREVER to SIK_TAIL) */
+    SIK_PARTS_PASSES = 7,        /* the stored pass count */
+    SIK_PARTS_BEFORE = 8,        /* how many bytes stand before the record: an archive is walked by reading those next */
+    SIK_PARTS_FORMAT = 9,        /* the record's format, 1 or 2 */
+    SIK_PARTS_LABEL_LENGTH = 10, /* 8, or 0 for no label */
+    SIK_PARTS_SIZE = 11
 };
 
 /* Reads the record that the bytes end in, from the last byte backwards; bytes before it do not matter. The stored
- * verdict is only read, not worked out again.
+ * verdict is only read, not worked out again. A record of format 1 has a site label, eight zeros if none was set; a
+ * record of format 2 has no label.
  *   parts      becomes the record's parts
  * Refusals: 1 to 3, 23, 4 to 17.
  */

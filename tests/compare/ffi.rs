@@ -29,7 +29,6 @@ extern "C" {
         trace: *const u8,
         trace_len: usize,
         n: u64,
-        label: *const u8,
         table: *mut u16,
         table_len: usize,
         out: *mut u8,
@@ -103,17 +102,16 @@ pub fn evaluate(
     }
 }
 
-/// Writes a record; the label has 8 bytes, the answer 3 words.
+/// Writes a record; the answer has 3 words.
 pub fn write_record(
     program: &Lent<u8>,
     trace: &Lent<u8>,
     n: u64,
-    label: &Lent<u8>,
     table: &mut Lent<u16>,
     out: &mut Lent<u8>,
     answer: &mut Lent<u64>,
 ) -> u32 {
-    assert_eq!((label.len(), answer.len()), (8, 3));
+    assert_eq!(answer.len(), 3);
     let (cells, room) = (table.len(), out.len());
     unsafe {
         sik_write_record(
@@ -122,7 +120,6 @@ pub fn write_record(
             trace.pointer(),
             trace.len(),
             n,
-            label.pointer(),
             table.pointer_mut(),
             cells,
             out.pointer_mut(),
@@ -132,9 +129,9 @@ pub fn write_record(
     }
 }
 
-/// Reads the last record; the parts have 9 words.
+/// Reads the last record; the parts have 11 words.
 pub fn read_record(bytes: &Lent<u8>, parts: &mut Lent<u64>) -> u32 {
-    assert_eq!(parts.len(), 9);
+    assert_eq!(parts.len(), 11);
     unsafe { sik_read_record(bytes.pointer(), bytes.len(), parts.pointer_mut()) }
 }
 

@@ -1,5 +1,5 @@
 //! Compares the library, called through its C interface, with a second implementation of document 01 and of
-//! request 01 of document 02.
+//! requests 01 and 02 of document 02.
 //!
 //! Random and damaged programs, traces, tables, rings, records and archives are handed to both. The
 //! number answered, every answer and all of the lent memory must be the same, and the input must stay
@@ -29,8 +29,8 @@
 //!
 //! A difference is printed with its seed, its round and the case in hexadecimal, and the exit status is 1.
 //! The status is 1 also where all kinds are run for 1,000 rounds or more and a number from 1 to 23 is
-//! never answered, and where the rounds are so many that all was tried (some 5,700) and something that `met`
-//! counts was never met.
+//! never answered or a record with a label, with one of zeros or with none is never read, and where the rounds
+//! are so many that all was tried (some 5,700) and something that `met` counts was never met.
 //!
 //! Not covered: buffers that overlap, null pointers with a length other than 0, pass counts
 //! above some thousands, more than one evaluation with 16,777,216 cells (none with `--exact`), and the
@@ -107,12 +107,13 @@ fn run_round(options: &Options, round: u64, report: &mut Report) {
     }
 }
 
-/// Prints the counts; a long run must have met every refusal number and all of the language.
+/// Prints the counts; a long run must have met every refusal number, both formats and all of the language.
 fn end(options: &Options, report: &Report) {
     print!("{}", report.lines());
     let mut missing = Vec::new();
     if options.only.is_empty() && options.rounds >= FULL {
         missing.extend(report.never_answered());
+        missing.extend(report.never_read());
     }
     let wanted = BODIES.iter().all(|kind| options.wants(kind)) && !options.exact;
     let tallies = match wanted && options.rounds >= rounds_for_all() {

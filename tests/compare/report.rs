@@ -1,4 +1,4 @@
-//! Counts of the cases and of the numbers they met.
+//! Counts of the cases, and of the numbers and the records they met.
 
 use std::collections::BTreeMap;
 
@@ -8,10 +8,15 @@ use super::oracle::search::Evaluation;
 /// The largest refusal number.
 const LAST_NUMBER: u32 = 23;
 
+/// The records that are told apart where one is read.
+const RECORDS: [&str; 3] = ["a label", "a label of zeros", "no label"];
+
 #[derive(Default)]
 pub struct Report {
     /// For each kind of case, how often each number was answered; 0 is no refusal.
     kinds: BTreeMap<&'static str, BTreeMap<u32, u64>>,
+    /// How often each of RECORDS was read.
+    records: [u64; 3],
     verdicts: [u64; 5],
     most_passes: u32,
     most_cells: usize,
@@ -23,6 +28,16 @@ impl Report {
     pub fn count(&mut self, kind: &'static str, number: u32) {
         let counts = self.kinds.entry(kind).or_default();
         *counts.entry(number).or_default() += 1;
+    }
+
+    /// Counts a record that was read, by its label.
+    pub fn read(&mut self, label: Option<&[u8]>) {
+        let zeros = |label: &[u8]| label.iter().all(|byte| *byte == 0);
+        let place = match label {
+            Some(label) => usize::from(zeros(label)),
+            None => 2,
+        };
+        self.records[place] += 1;
     }
 
     /// Counts what an evaluation came to.
@@ -48,10 +63,26 @@ impl Report {
         never.map(|number| format!("number {number}")).collect()
     }
 
-    /// One line for each kind of case, one on the evaluations, and what they met of the language.
+    /// The records that no case read.
+    pub fn never_read(&self) -> Vec<String> {
+        let counts = RECORDS.iter().zip(self.records);
+        let never = counts.filter(|(_, read)| *read == 0);
+        never
+            .map(|(name, _)| format!("record with {name}"))
+            .collect()
+    }
+
+    /// One line for each kind of case, one on the records read, one on the evaluations, and what they met of the
+    /// language.
     pub fn lines(&self) -> String {
         let lines = self.kinds.iter().map(|(kind, counts)| line(kind, counts));
-        lines.collect::<String>() + &self.evaluations() + &self.met.lines()
+        lines.collect::<String>() + &self.read_records() + &self.evaluations() + &self.met.lines()
+    }
+
+    /// The line on all records that were read.
+    fn read_records(&self) -> String {
+        let [label, zeros, none] = self.records;
+        format!("records read: with a label {label}, with one of zeros {zeros}, with none {none}\n")
     }
 
     /// The line on all evaluations.

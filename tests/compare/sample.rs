@@ -1,6 +1,6 @@
 //! The sample archive: records of each verdict; one with another verdict, one with another pass count; a rule
-//! that needs all of the listing's cells, and one that needs more; two labels; traces of no sample, of some and
-//! of many.
+//! that needs all of the listing's cells, and one that needs more; traces of no sample, of some and of many. The
+//! older records are of format 1, two of them with a label that is set; those of format 2 come after them.
 
 use super::oracle::record::Content;
 use super::oracle::{program, search, trace};
@@ -15,7 +15,9 @@ const BY_ANOTHER: &[u8] = b"\x02\x01\x01\x01\x00\x81\x00\x00\x01\x00\x01";
 /// A function of two lists: 40,602 cells on 200 samples.
 const SAME_LENGTH: &[u8] = b"\x02\x01\x01\x04\x00\x81\x10\x21\x10\x02\x03\x0D\x00\x23\x22\x10\
     \x01\x23\x22\x11\x00\x81\x21\x10\x21\x11";
-const NO_LABEL: [u8; 8] = [0; 8];
+const ALWAYS: &[u8] = b"\x01\x01\x01\x01\x00\x01";
+/// The label of a record of format 1 for which none was set.
+const UNSET: Option<[u8; 8]> = Some([0; 8]);
 
 /// 32 functions of a list: 16,384 cells on 511 samples.
 fn fitting() -> Vec<u8> {
@@ -23,7 +25,7 @@ fn fitting() -> Vec<u8> {
 }
 
 /// A record of a rule on a trace, with the verdict and the pass count that it has.
-fn recorded(program: &[u8], samples: &[bool], label: [u8; 8]) -> Content {
+fn recorded(program: &[u8], samples: &[bool], label: Option<[u8; 8]>) -> Content {
     let functions = program::check(program).expect("the sample's programs are accepted");
     let evaluation = search::evaluate(&functions, samples);
     Content {
@@ -41,21 +43,27 @@ pub fn archive() -> Vec<u8> {
     let once_in = |period: usize, n: usize| (0..n).map(|i| i % period == 0).collect::<Vec<_>>();
     let twelve_ones = [vec![true; 12], vec![false]].concat();
     let second_ones = [false, true].repeat(20);
-    let mut yes = recorded(ALL_ONES, &[false; 4], NO_LABEL);
+    let mut yes = recorded(ALL_ONES, &[false; 4], UNSET);
     yes.verdict = 2;
-    let mut early = recorded(BY_ANOTHER, &[], NO_LABEL);
+    let mut early = recorded(BY_ANOTHER, &[], UNSET);
     early.passes = 2;
+    let mut no = recorded(ALL_ONES, &[true; 9], None);
+    no.verdict = 1;
     let contents = [
-        recorded(ALL_ONES, &[true; 24], *b"press 07"),
-        recorded(ALL_ONES, &twelve_ones, NO_LABEL),
-        recorded(ITSELF, &[true, false, true], NO_LABEL),
-        recorded(FIRST, &[], NO_LABEL),
-        recorded(TO_THE_END, &second_ones, NO_LABEL),
-        recorded(NO_TWO_ONES, &once_in(3, 301), *b"ladle 02"),
-        recorded(SAME_LENGTH, &[true; 200], NO_LABEL),
-        recorded(&fitting(), &[false; 511], NO_LABEL),
+        recorded(ALL_ONES, &[true; 24], Some(*b"press 07")),
+        recorded(ALL_ONES, &twelve_ones, UNSET),
+        recorded(ITSELF, &[true, false, true], UNSET),
+        recorded(FIRST, &[], UNSET),
+        recorded(TO_THE_END, &second_ones, UNSET),
+        recorded(NO_TWO_ONES, &once_in(3, 301), Some(*b"ladle 02")),
+        recorded(SAME_LENGTH, &[true; 200], UNSET),
+        recorded(&fitting(), &[false; 511], UNSET),
         yes,
         early,
+        // From here on format 2: the first record's rule and trace, the smallest record, another verdict.
+        recorded(ALL_ONES, &[true; 24], None),
+        recorded(ALWAYS, &[], None),
+        no,
     ];
     contents.iter().flat_map(Content::bytes).collect()
 }

@@ -16,7 +16,7 @@ use Rattle.layout.specs.declared.Reading.{Reading}
 use Rattle.layout.specs.declared.Reading.the-variants as read
 use Rattle.layout.specs.Form.{Contents, layout, Stated}
 use Rattle.layout.specs.Trailer.{contentsAt}
-use Rattle.layout.proofs.Places.{bytes-take}
+use Rattle.rule.proofs.FunctionBytes.{bytes-take}
 use Rattle.record.specs.Reading.{reading}
 use Rattle.record.proofs.Inverse.{read-back}
 use Rattle.record.proofs.Ends.{ends-in}

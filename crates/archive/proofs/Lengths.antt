@@ -1,5 +1,5 @@
 -- Laws of the lengths of a listing's lines, of numbers below 10 ^ 5:
---   record-line-short      the line of a record, at most 44
+--   record-line-short      the line of a record, at most 34
 --   stop-line-short        the line of a refused record, at most 64
 --   end-line-short         the line after the last record, at most 64
 use Prim.Native.Nat.{ℕ, zero, suc, _^_, _<_, _≤_}
@@ -40,7 +40,7 @@ check-short (checked.Refused f) = omega (arith, number-short f)
 -- ---- Lines
 
 pub record-line-short : (ordinal size : ℕ) (p : Parts) (c : Checked) → ordinal < 10 ^ 5 → size < 10 ^ 5 → p .n < 10 ^ 5
-    → length (recordLine ordinal size p c) ≤ 44
+    → length (recordLine ordinal size p c) ≤ 34
 unfolding recordLine
 record-line-short ordinal size p c o s n =
     simp length-append

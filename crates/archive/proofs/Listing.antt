@@ -25,7 +25,10 @@ use Rattle.record.specs.Reading.{reading}
 use Rattle.record.specs.declared.Checked.{Checked}
 use Rattle.record.specs.declared.Examined.{Examined}
 use Rattle.record.specs.Checking.{checking, examining}
+use Rattle.rule.specs.Form.{AreBytes}
+use Rattle.rule.proofs.FunctionBytes.{bytes-take}
 use Rattle.record.proofs.Answers.{parts-within}
+use Rattle.record.proofs.Ends.{record-least}
 use Rattle.archive.specs.Walk.{walk}
 use Rattle.archive.specs.Listing.{mostArchive, listingCells, listingBytes, newline, tooLongWords, recordLine, stopLine, endLine, linesOf, listing}
 use Rattle.archive.proofs.Walking.{before-short, walk-end, walk-record, walk-refused}
@@ -50,39 +53,39 @@ lines-refused listed bytes f h e = rw (walk-refused bytes f h e)
 
 -- ---- Their length
 
--- a turn: a line of at most 44 bytes for a record of at least 22
-record-short : (listed : ℕ) (bytes : List ℕ) (p : Parts) → listed + length bytes ≤ mostArchive → reading bytes ≡ read.Record p
+-- a turn: a line of at most 34 bytes for a record of at least 19
+record-short : (listed : ℕ) (bytes : List ℕ) (p : Parts) → AreBytes bytes → listed + length bytes ≤ mostArchive → reading bytes ≡ read.Record p
     → length (linesOf (suc listed) (walk (take (p .program .start) bytes))) ≤ 2 * length (take (p .program .start) bytes) + 64
     → length (linesOf listed (walk bytes)) ≤ 2 * length bytes + 64
-record-short listed bytes p few e more =
+record-short listed bytes p are few e more =
     let w = parts-within bytes p e in
     let size = length bytes - p .program .start in
     let rest = linesOf (suc listed) (walk (take (p .program .start) bytes)) in
     let line = recordLine (suc listed) size p (checking bytes listingCells) in
-    let short = before-short bytes p e in
-    let one : length line ≤ 44 =
+    let before : length (take (p .program .start) bytes) ≡ p .program .start = length-take-le (p .program .start) bytes (omega (arith, w .some)) in
+    let one : length line ≤ 34 =
     record-line-short (suc listed) size p (checking bytes listingCells) (omega arith) (omega arith) (omega (arith, w .few)) in
-    rw (lines-record listed bytes p e) (omega (arith, length-append line rest))
+    rw (lines-record listed bytes p e) (omega (arith, length-append line rest, record-least bytes p are e))
 
-by-reading : (listed : ℕ) (bytes : List ℕ) (r : Reading) → 0 < length bytes → listed + length bytes ≤ mostArchive → reading bytes ≡ r
+by-reading : (listed : ℕ) (bytes : List ℕ) (r : Reading) → AreBytes bytes → 0 < length bytes → listed + length bytes ≤ mostArchive → reading bytes ≡ r
     → ((p : Parts) → reading bytes ≡ read.Record p
     → length (linesOf (suc listed) (walk (take (p .program .start) bytes))) ≤ 2 * length (take (p .program .start) bytes) + 64)
     → length (linesOf listed (walk bytes)) ≤ 2 * length bytes + 64
-by-reading listed bytes (read.Record p) h few e more = record-short listed bytes p few e (more p e)
-by-reading listed bytes (read.Refused f) h few e more =
+by-reading listed bytes (read.Record p) are h few e more = record-short listed bytes p are few e (more p e)
+by-reading listed bytes (read.Refused f) are h few e more =
     rw (lines-refused listed bytes f h e) (omega (arith, stop-line-short (suc listed) f (omega arith)))
 
-short-in : (k listed : ℕ) (bytes : List ℕ) → length bytes ≤ k → listed + length bytes ≤ mostArchive
+short-in : (k listed : ℕ) (bytes : List ℕ) → AreBytes bytes → length bytes ≤ k → listed + length bytes ≤ mostArchive
     → length (linesOf listed (walk bytes)) ≤ 2 * length bytes + 64
-short-in zero listed [] h few = rw (lines-end listed) (end-line-short listed (omega arith))
-short-in (suc k) listed [] h few = rw (lines-end listed) (end-line-short listed (omega arith))
-short-in zero listed (b ∷ bs) h few = absurd (omega arith)
-short-in (suc k) listed (b ∷ bs) h few =
-    by-reading listed (b ∷ bs) (reading (b ∷ bs)) (omega arith) few refl
-    (λ p e. let short = before-short (b ∷ bs) p e in short-in k (suc listed) (take (p .program .start) (b ∷ bs)) (omega arith) (omega arith))
+short-in zero listed [] are h few = rw (lines-end listed) (end-line-short listed (omega arith))
+short-in (suc k) listed [] are h few = rw (lines-end listed) (end-line-short listed (omega arith))
+short-in zero listed (b ∷ bs) are h few = absurd (omega arith)
+short-in (suc k) listed (b ∷ bs) are h few =
+    by-reading listed (b ∷ bs) (reading (b ∷ bs)) are (omega arith) few refl
+    (λ p e. let short = before-short (b ∷ bs) p e in short-in k (suc listed) (take (p .program .start) (b ∷ bs)) (bytes-take (p .program .start) (b ∷ bs) are) (omega arith) (omega arith))
 
-pub lines-short : (archive out : List ℕ) → length archive ≤ mostArchive → length out ≡ listingBytes → length (linesOf 0 (walk archive)) ≤ length out
-lines-short archive out few size = omega (arith, short-in (length archive) 0 archive (omega arith) (omega arith))
+pub lines-short : (archive out : List ℕ) → AreBytes archive → length archive ≤ mostArchive → length out ≡ listingBytes → length (linesOf 0 (walk archive)) ≤ length out
+lines-short archive out are few size = omega (arith, short-in (length archive) 0 archive are (omega arith) (omega arith))
 
 -- ---- The loop
 
@@ -93,14 +96,14 @@ pub record Turn (archive out₀ out table : List ℕ) (left listed at : ℕ) : T
   pub cells : length table ≡ listingCells
   pub text : Left out₀ 0 (linesOf 0 (walk archive)) out at (linesOf listed (walk (take left archive)))
 
-pub turn-start : (archive out table : List ℕ) → length archive ≤ mostArchive → length out ≡ listingBytes → length table ≡ listingCells
+pub turn-start : (archive out table : List ℕ) → AreBytes archive → length archive ≤ mostArchive → length out ≡ listingBytes → length table ≡ listingCells
     → Turn archive out out table (length archive) 0 0
-turn-start archive out table few size cells =
+turn-start archive out table are few size cells =
     record {
       within = omega arith;
       few = omega arith;
       cells = cells;
-      text = rw (take-all (length archive) archive (omega arith)) (left-front out (linesOf 0 (walk archive)) (lines-short archive out few size));
+      text = rw (take-all (length archive) archive (omega arith)) (left-front out (linesOf 0 (walk archive)) (lines-short archive out are few size));
     }
 
 module _ {archive out₀ out table : List ℕ} {left listed at : ℕ} (t : Turn archive out₀ out table left listed at) where
@@ -128,8 +131,8 @@ module _ {archive out₀ out table : List ℕ} {left listed at : ℕ} (t : Turn 
       rw (none, lines-end listed) at (t .text)
 
   module _ {p : Parts} (e : reading bytes ≡ read.Record p) where
-    pub start-below : p .program .start + 22 ≤ left
-    start-below = omega (arith, parts-within bytes p e .start22, size)
+    pub start-below : p .program .start < left
+    start-below = omega (arith, parts-within bytes p e .some, size)
 
     pub turn-record : {c : Checked} → c ≡ checking bytes listingCells
         → Left out₀ 0 (linesOf 0 (walk archive)) out at (recordLine (listed + 1) (left - p .program .start) p c

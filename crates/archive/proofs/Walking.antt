@@ -1,13 +1,13 @@
 -- Laws of the walk:
 --   step-owed                  what a step answers, and that in numbers
---   before-short               the bytes before a record are at least 22 fewer than those that end in it
+--   before-short               the bytes before a record are fewer than those that end in it
 --   walk-enough                more steps than bytes change nothing
 --   walk-end                   no bytes left is the end
 --   walk-record                a record is found, and then the walk of the bytes before it
 --   walk-refused               a refusal ends the walk
 use mathlib.Core.Path.{_≡_, refl, ap, _∙_}
 use mathlib.Core.List.{List, [], _∷_}
-use Prim.Native.Nat.{ℕ, zero, suc, _+_, _<_, _≤_}
+use Prim.Native.Nat.{ℕ, zero, suc, _<_, _≤_}
 use native.Mathlib.Omega.{arith}
 use lib.ListN.{length, take}
 use lib.Seq.{length-take-le}
@@ -19,13 +19,13 @@ use Rattle.layout.specs.declared.Parts.{Parts}
 use Rattle.layout.specs.declared.Reading.{Reading}
 use Rattle.layout.specs.declared.Reading.the-variants as read
 use Rattle.layout.specs.Trailer.{partsIn, readBy}
-use Rattle.record.specs.Reading.{readCheck, reading, partsValues}
+use Rattle.record.specs.Reading.{readCheck, readingWith, reading, partsValues}
 use Rattle.record.proofs.Answers.{parts-within}
 use Rattle.archive.specs.declared.Step.{Step}
 use Rattle.archive.specs.Walk.{stepBy, stepIn, stepAnswer, stepNumbers, Walk, ended, stopped, found, onward, walkIn, walk}
 
 pub step-owed : (bytes : List ℕ) {r : Step} → r ≡ stepIn bytes → (r ≡ stepIn bytes) × (stepAnswer r ≡ stepNumbers bytes)
-unfolding reading
+unfolding readingWith
 step-owed bytes e = (e, ap stepAnswer e ∙ go bytes)
   where
     by-check : (k : Check) (p : Parts) → stepAnswer (stepBy (readBy k p)) ≡ answerIf k (partsValues p)
@@ -36,8 +36,8 @@ step-owed bytes e = (e, ap stepAnswer e ∙ go bytes)
     go [] = refl
     go (b ∷ bs) = by-check (readCheck (b ∷ bs)) (partsIn (b ∷ bs))
 
-pub before-short : (bytes : List ℕ) (p : Parts) → reading bytes ≡ read.Record p → length (take (p .program .start) bytes) + 22 ≤ length bytes
-before-short bytes p e = let w = parts-within bytes p e in rw (length-take-le (p .program .start) bytes (omega arith)) (w .start22)
+pub before-short : (bytes : List ℕ) (p : Parts) → reading bytes ≡ read.Record p → length (take (p .program .start) bytes) < length bytes
+before-short bytes p e = let w = parts-within bytes p e in rw (length-take-le (p .program .start) bytes (omega arith)) (w .some)
 
 -- two ways on from a record that are the same for the record that is read
 same-onward : (bytes : List ℕ) (r : Reading) → reading bytes ≡ r → (k l : Parts → Walk) → ((p : Parts) → reading bytes ≡ read.Record p → k p ≡ l p)

@@ -95,6 +95,7 @@ linesOf listed (found bytes p w) =
 unfoldable pub listing : List ℕ → List ℕ
 listing archive = cond (ltb mostArchive (length archive)) (tooLongWords ++ newline) (linesOf 0 (walk archive))
 
--- room for every listing: a record of at least 22 bytes has a line of at most 44, and the last line has at most 64
+-- room for every listing: a record of at least 19 bytes has a line of at most 34, less than two for each of its bytes, and the last
+-- line has at most 64: 2 × 32,768 + 64
 abbrev pub listingBytes : ℕ
 listingBytes = 65600

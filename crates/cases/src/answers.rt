@@ -2,6 +2,7 @@
 use archive::Step;
 use evaluate::Evaluated;
 use evaluate::PassMade;
+use layout::Label;
 use layout::Parts;
 use layout::Reading;
 use layout::Span;
@@ -97,12 +98,21 @@ fn parts(parts: Parts) {
     let program = parts.program;
     let trace = parts.trace;
     let label = parts.label;
+    told(b" format", parts.format as usize);
     place(b" program", program);
     place(b" trace", trace);
     told(b" n", parts.n as usize);
-    place(b" label", label);
+    site(label);
     told(b" verdict", parts.verdict as usize);
     told(b" passes", parts.passes as usize);
+}
+
+// The site label of a record.
+fn site(label: Label) {
+    match label {
+        Label::At(span) => place(b" label", span),
+        Label::Absent => words(b" no label"),
+    }
 }
 
 // The answer of reading.

@@ -3,7 +3,6 @@ use crate::answers;
 use crate::operations::CELLS_AT;
 use crate::operations::PLACES;
 use crate::operations::SECOND;
-use crate::operations::THIRD;
 use crate::operations::WRITTEN_AT;
 use ring::Added;
 use ring::Ring;
@@ -63,13 +62,8 @@ pub fn perform(
     if index < WRITE {
         return of_rule(index, first, second, numbers[0], table);
     }
-    let third = parts::bytes(given, places[THIRD], places[THIRD + 1]);
     let out = parts::bytes_mut(written, places[WRITTEN_AT], places[WRITTEN_AT + 1]);
-    write(first, second, numbers[0], third, table, out);
-}
-
-fn write(program: &[u8], trace: &[u8], n: usize, site: &[u8], table: &mut [u16], out: &mut [u8]) {
-    answers::written(record::write(program, trace, n, label(site), table, out));
+    answers::written(record::write(first, second, numbers[0], table, out));
 }
 
 // Operations on a ring, on lent slots or with an output.
@@ -133,20 +127,6 @@ fn check(program: &[u8]) {
     let judged = rule::check_program(program);
     let check = judged.check;
     answers::judged(check);
-}
-
-// The first eight bytes.
-fn label(bytes: &[u8]) -> [u8; 8] {
-    [
-        parts::byte_at(bytes, 0),
-        parts::byte_at(bytes, 1),
-        parts::byte_at(bytes, 2),
-        parts::byte_at(bytes, 3),
-        parts::byte_at(bytes, 4),
-        parts::byte_at(bytes, 5),
-        parts::byte_at(bytes, 6),
-        parts::byte_at(bytes, 7),
-    ]
 }
 
 // What reading and what checking answer.

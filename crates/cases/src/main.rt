@@ -9,7 +9,7 @@
 //
 //     add SLOTS NEXT COUNT SAMPLE       take SLOTS NEXT COUNT OUTPUT       fill SLOTS SAMPLES
 //     check PROGRAM                     evaluate PROGRAM TRACE N TABLE     pass PROGRAM TRACE N TABLE
-//     write PROGRAM TRACE N LABEL TABLE OUTPUT
+//     write PROGRAM TRACE N TABLE OUTPUT
 //     read RECORD                       check-record RECORD TABLE          examine RECORD TABLE
 //     last ARCHIVE LEFT                 walk ARCHIVE                       list ARCHIVE
 //
@@ -17,7 +17,7 @@
 // with '*' and a number to repeat it, as 0+9*4. The others are bytes: pairs of hexadecimal digits, with capitals;
 // '*' and a number repeats the pairs before it, and '+' begins others, so 0102*3+FF is 01 02 01 02 01 02 FF. In
 // bytes and cells '[' and ']' stand around the part that is lent, as in 9*2[0*3]9; without them all is lent. '-'
-// stands for none. Of a SAMPLE the first byte counts, of a LABEL the first eight; missing ones are 0.
+// stands for none. Of a SAMPLE the first byte counts; a missing one is 0.
 //
 // A case prints its name, the answer, and each memory that the operation may write as it is afterwards, in the
 // same form: four equal bytes or more, and equal cells, are repeated by '*'; after 40 runs of equal ones it says

@@ -32,7 +32,7 @@ fn operations() -> [u8; 260] {
        list         b      \
        evaluate     bbnc   \
        pass         bbnc   \
-       write        bbnbcw \
+       write        bbncw  \
        check-record bc     \
        examine      bc     "
 }
@@ -49,16 +49,14 @@ struct Fields {
 }
 
 // Three places for each memory, in `places`: the beginning and the end of the lent part, and the end of the whole.
-// First come up to three fields of bytes that are read, then the bytes and the cells that may be written.
-pub const PLACES: usize = 15;
+// First come up to two fields of bytes that are read, then the bytes and the cells that may be written.
+pub const PLACES: usize = 12;
 
 pub const SECOND: usize = 3;
 
-pub const THIRD: usize = 6;
+pub const WRITTEN_AT: usize = 6;
 
-pub const WRITTEN_AT: usize = 9;
-
-pub const CELLS_AT: usize = 12;
+pub const CELLS_AT: usize = 9;
 
 // Runs a line; false where it cannot be read.
 pub fn line(line: &[u8]) -> bool {

@@ -1,6 +1,7 @@
 // The functions that the daemon in C calls, on bytes and numbers alone. include/sikafondza.h declares
 // them for C and is their documentation.
 use evaluate::Evaluated;
+use layout::Label;
 use layout::Reading;
 use record::Checked;
 use record::Written;
@@ -15,7 +16,7 @@ ghost use Rattle.ring.specs.{slotsAfter, adding, addedAnswer, taking, takenAnsw
 ghost use Rattle.semantics.specs.Verdicts.{verdictValues};
 ghost use Rattle.rule.specs.Reading.{programCheck};
 ghost use Rattle.evaluate.specs.Evaluate.{evaluation, evaluatedAnswer, tableEvaluated, Demand3};
-ghost use Rattle.record.specs.Reading.{reading, readAnswer};
+ghost use Rattle.record.specs.Reading.{reading, readAnswer, labelStart, labelLength};
 ghost use Rattle.record.specs.Recording.{recordOf, writing, writtenAnswer, outputWritten, tableWritten, RecordDemand3};
 ghost use Rattle.record.specs.Checking.{checking, checkedAnswer, tableChecked, CheckDemand3};
 ghost use Rattle.gateway.specs.{ringIn, firstAlone, agreementValues};
@@ -121,7 +122,7 @@ fn answer_with(evaluated: Evaluated, answer: &mut [u64; 2]) -> u32
 // Reads the record that the bytes end in: 0, with its parts as numbers in `parts`; or the number of the
 // refusal, 1 to 3, 23 or 4 to 17, with `parts` as they were.
 #[no_mangle]
-pub extern "C" fn sik_read_record(bytes: &[u8], parts: &mut [u64; 9]) -> u32
+pub extern "C" fn sik_read_record(bytes: &[u8], parts: &mut [u64; 11]) -> u32
     ensures number { λ r. ⌜ r ≡ readAnswer (reading (now (bytes .entry))) .number ⌝ }
     ensures parts { λ _. ⌜ now (parts .exit) ≡ valuesLeft (readAnswer (reading (now (bytes .entry)))) (now (parts .entry)) ⌝ }
 {
@@ -130,7 +131,7 @@ pub extern "C" fn sik_read_record(bytes: &[u8], parts: &mut [u64; 9]) -> u32
 }
 
 // Writes a record's parts, and answers 0; or answers the number of the refusal.
-fn parts_with(reading: Reading, parts: &mut [u64; 9]) -> u32
+fn parts_with(reading: Reading, parts: &mut [u64; 11]) -> u32
     ensures number { λ r. ⌜ r ≡ readAnswer reading .number ⌝ }
     ensures parts { λ _. ⌜ now (parts .exit) ≡ valuesLeft (readAnswer reading) (now (parts .entry)) ⌝ }
 {
@@ -139,20 +140,33 @@ fn parts_with(reading: Reading, parts: &mut [u64; 9]) -> u32
             let program = found.program;
             let trace = found.trace;
             let label = found.label;
+            let place = label_numbers(label);
             *parts = [
                 program.start as u64,
                 program.length as u64,
                 trace.start as u64,
                 trace.length as u64,
                 found.n as u64,
-                label.start as u64,
+                place[0],
                 found.verdict as u64,
                 found.passes as u64,
                 program.start as u64,
+                found.format as u64,
+                place[1],
             ];
             0
         }
         Reading::Refused(refusal) => refusal::number(refusal),
+    }
+}
+
+// Where a label stands, and its length: both 0 for 'no label'.
+fn label_numbers(label: Label) -> [u64; 2]
+    ensures { λ r. ⌜ r ≡ labelStart label ∷ labelLength label ∷ [] ⌝ }
+{
+    match label {
+        Label::Absent => [0, 0],
+        Label::At(span) => [span.start as u64, span.length as u64],
     }
 }
 
@@ -164,18 +178,17 @@ pub extern "C" fn sik_write_record(
     program: &[u8],
     trace: &[u8],
     n: u64,
-    label: &[u8; 8],
     table: &mut [u16],
     out: &mut [u8],
     answer: &mut [u64; 3],
 ) -> u32
-    ensures number { λ r. ⌜ r ≡ writtenAnswer (writing (now (program .entry)) (now (trace .entry)) n (now (label .entry)) (length (now (table .entry))) (length (now (out .entry)))) .number ⌝ }
-    ensures output { λ _. ⌜ now (out .exit) ≡ outputWritten (now (program .entry)) (now (trace .entry)) n (now (label .entry)) (length (now (table .entry))) (now (out .entry)) ⌝ }
-    ensures cells { λ _. ⌜ now (table .exit) ≡ tableWritten (now (program .entry)) (now (trace .entry)) n (now (label .entry)) (now (table .entry)) (length (now (out .entry))) ⌝ }
-    ensures answer { λ _. ⌜ now (answer .exit) ≡ valuesLeft (writtenAnswer (writing (now (program .entry)) (now (trace .entry)) n (now (label .entry)) (length (now (table .entry))) (length (now (out .entry))))) (now (answer .entry)) ⌝ }
-    ensures decides { λ r. ⌜ RecordDemand3 (now (program .entry)) (now (trace .entry)) n (now (label .entry)) (length (now (table .entry))) (length (now (out .entry))) (λ v. (r ≡ 0) × (now (answer .exit) ≡ length (recordOf (now (program .entry)) (now (trace .entry)) n (now (label .entry))) ∷ verdictValues v)) (now (table .exit)) ⌝ }
+    ensures number { λ r. ⌜ r ≡ writtenAnswer (writing (now (program .entry)) (now (trace .entry)) n (length (now (table .entry))) (length (now (out .entry)))) .number ⌝ }
+    ensures output { λ _. ⌜ now (out .exit) ≡ outputWritten (now (program .entry)) (now (trace .entry)) n (length (now (table .entry))) (now (out .entry)) ⌝ }
+    ensures cells { λ _. ⌜ now (table .exit) ≡ tableWritten (now (program .entry)) (now (trace .entry)) n (now (table .entry)) (length (now (out .entry))) ⌝ }
+    ensures answer { λ _. ⌜ now (answer .exit) ≡ valuesLeft (writtenAnswer (writing (now (program .entry)) (now (trace .entry)) n (length (now (table .entry))) (length (now (out .entry))))) (now (answer .entry)) ⌝ }
+    ensures decides { λ r. ⌜ RecordDemand3 (now (program .entry)) (now (trace .entry)) n (length (now (table .entry))) (length (now (out .entry))) (λ v. (r ≡ 0) × (now (answer .exit) ≡ length (recordOf (now (program .entry)) (now (trace .entry)) n) ∷ verdictValues v)) (now (table .exit)) ⌝ }
 {
-    let written = record::write(program, trace, n as usize, *label, table, out);
+    let written = record::write(program, trace, n as usize, table, out);
     written_with(written, answer)
 }
 

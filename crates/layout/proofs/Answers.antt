@@ -10,7 +10,7 @@ use Rattle.refusal.specs.declared.Check.the-variants.{Passed, Refused}
 use Rattle.layout.specs.declared.Parts.{Parts}
 use Rattle.layout.specs.declared.Reading.{Reading}
 use Rattle.layout.specs.declared.Reading.the-variants as read
-use Rattle.layout.specs.Trailer.{trailerCheck, partsIn, readBy, located}
+use Rattle.layout.specs.Trailer.{trailerCheck, partsIn, readBy, locatedWith, located}
 
 abbrev partsOf : Parts → Reading → Parts
 partsOf p (read.Record q) = q
@@ -35,14 +35,14 @@ read-passed c p q e =
 
 module _ (bytes : List ℕ) {r : Reading} (l : r ≡ located bytes) where
   pub located-refusal : {f : Refusal} → r ≡ read.Refused f → trailerCheck bytes ≡ Refused f
-  unfolding located
+  unfolding locatedWith
   located-refusal e = read-refused (trailerCheck bytes) (partsIn bytes) (sym l ∙ e)
 
   module _ {p : Parts} (e : r ≡ read.Record p) where
     pub located-passed : trailerCheck bytes ≡ Passed
-    unfolding located
+    unfolding locatedWith
     located-passed = read-passed (trailerCheck bytes) (partsIn bytes) p (sym l ∙ e) .0
 
     pub parts-are : partsIn bytes ≡ p
-    unfolding located
+    unfolding locatedWith
     parts-are = read-passed (trailerCheck bytes) (partsIn bytes) p (sym l ∙ e) .1

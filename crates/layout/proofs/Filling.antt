@@ -4,14 +4,14 @@
 --   packing-same                            bytes that are a packing: their number, and that they are it
 --   low-bits                                two bytes of a number, by its low 16 bits
 --   trailer-is                              the trailer of what is recorded
---   size-is                                 how long the record is
+--   length-layout, size-is                  how long a record is, and what is recorded
 --   no-packing, no-verdict, no-space,
 --   put-whole                               an output, by what was tested and put
 --   filled-begins                           an output that is filled begins with the record
 use mathlib.Core.Path.{_≡_, sym, ap, _∙_}
 use mathlib.Core.Bool.{true, false, not}
 use mathlib.Core.List.{List, [], _∷_, _++_}
-use Prim.Native.Nat.{ℕ, _+_, _-_, _*_, _/_, _%_, _<_, _≤_}
+use Prim.Native.Nat.{ℕ, _+_, _*_, _/_, _%_, _<_, _≤_}
 use native.Mathlib.Omega.{arith}
 use lib.Arith.{mod-mul}
 use lib.Dec.{eqb}
@@ -26,7 +26,8 @@ use Rattle.semantics.specs.declared.Verdict.{Verdict}
 use Rattle.encoding.specs.{lowFirst, begins, put}
 use Rattle.encoding.proofs.Low.{length-low, low-two}
 use Rattle.encoding.proofs.Putting.{no-room, front-put}
-use Rattle.layout.specs.Form.{Contents, format, mark, labelBytes, trailerBytes, afterTrace, traceDistance, programDistance, trailer, layout, mostVerdict}
+use Rattle.layout.specs.Form.{format2, Contents, formatOf, mark, resultBytes, trailerBytes, labelSize, traceDistance, programDistance, trailer, labelPart, layoutIn, layout, mostVerdict}
+use Rattle.layout.specs.declared.Format.{Format}
 use Rattle.layout.specs.Filling.{recorded, isPacking, filled}
 
 -- ---- The trace
@@ -61,50 +62,51 @@ low-bits x =
     let high : x % 65536 / 256 ≡ x / 256 % 256 = omega arith in
     sym (low-two (x % 65536) (omega arith)) ∙ rw (low, high)
 
-length-trailer : (c : Contents) → length (trailer c) ≡ trailerBytes
-length-trailer c =
-    rw (length-append, length-append, length-append, length-low 2 (programDistance c), length-low 2 (traceDistance c), length-low 2 (length (c .samples)))
+length-trailer : (F : Format) (c : Contents) → length (trailer F c) ≡ trailerBytes
+length-trailer F c =
+    rw (length-append, length-append, length-append, length-low 2 (programDistance F c), length-low 2 (traceDistance F c), length-low 2 (length (c .samples)))
 
-length-layout : (c : Contents) → length (layout c) ≡ length (c .program) + (length (pack (c .samples)) + (length (c .label) + (1 + (4 + trailerBytes))))
-unfolding layout
-length-layout c = rw (length-append, length-append, length-append, length-append, length-low 4 (c .passes), length-trailer c)
+pub length-layout : (c : Contents)
+    → length (layout c) ≡ length (c .program) + (length (pack (c .samples)) + (length (labelPart (c .label)) + (resultBytes + trailerBytes)))
+unfolding layoutIn
+length-layout c = rw (length-append, length-append, length-append, length-append, length-low 4 (c .passes), length-trailer (formatOf c) c)
 
-module _ (program trace : List ℕ) (n : ℕ) (label : List ℕ) (v : Verdict) {k : ℕ} (e : k ≡ bytesFor n) where
-  pub trailer-is : lowFirst 2 (length program + (k + afterTrace))
-      ++ (lowFirst 2 (k + afterTrace) ++ (lowFirst 2 n ++ (format ∷ mark ∷ []))) ≡ trailer (recorded program trace n label v)
-  unfolding recorded
+module _ (program trace : List ℕ) (n : ℕ) (v : Verdict) {k : ℕ} (e : k ≡ bytesFor n) where
+  pub trailer-is : lowFirst 2 (length program + (k + resultBytes))
+      ++ (lowFirst 2 (k + resultBytes) ++ (lowFirst 2 n ++ (format2 .number ∷ mark ∷ []))) ≡ trailer format2 (recorded program trace n v)
+  unfolding recorded labelSize
   trailer-is = rw (packed-size trace n, length-samples trace n, e)
 
-  pub size-is : length label ≡ labelBytes → length program + k + afterTrace + trailerBytes ≡ length (layout (recorded program trace n label v))
+  pub size-is : length program + k + resultBytes + trailerBytes ≡ length (layout (recorded program trace n v))
   unfolding recorded
-  size-is l = let bits : length (pack (samples trace n)) ≡ bytesFor n =
-      packed-size trace n in omega (arith, length-layout (recorded program trace n label v))
+  size-is = let bits : length (pack (samples trace n)) ≡ bytesFor n =
+      packed-size trace n in omega (arith, length-layout (recorded program trace n v))
 
 -- ---- The output
 
-module _ (program trace : List ℕ) (n : ℕ) (label : List ℕ) (v : Verdict) (out : List ℕ) where
+module _ (program trace : List ℕ) (n : ℕ) (v : Verdict) (out : List ℕ) where
   abbrev c : Contents
-  c = recorded program trace n label v
+  c = recorded program trace n v
 
-  pub no-packing : isPacking trace n ≡ false → out ≡ filled program trace n label v out
+  pub no-packing : isPacking trace n ≡ false → out ≡ filled program trace n v out
   unfolding filled
   no-packing e = rw e
 
   module _ (p : isPacking trace n ≡ true) where
-    pub no-verdict : mostVerdict < c .verdict → out ≡ filled program trace n label v out
+    pub no-verdict : mostVerdict < c .verdict → out ≡ filled program trace n v out
     unfolding filled
     no-verdict h = rw (p, lt-leb (c .verdict) mostVerdict h)
 
     module _ (small : c .verdict ≤ mostVerdict) where
-      whole-filled : put 0 (layout c) out ≡ filled program trace n label v out
+      whole-filled : put 0 (layout c) out ≡ filled program trace n v out
       unfolding filled
       whole-filled = rw (p, le-leb (c .verdict) mostVerdict small)
 
-      pub no-space : length out < length (layout c) → out ≡ filled program trace n label v out
+      pub no-space : length out < length (layout c) → out ≡ filled program trace n v out
       no-space h = no-room 0 (layout c) out (omega arith) .1 ∙ whole-filled
 
-      pub put-whole : {out′ : List ℕ} → out′ ≡ put 0 (layout c) out → out′ ≡ filled program trace n label v out
+      pub put-whole : {out′ : List ℕ} → out′ ≡ put 0 (layout c) out → out′ ≡ filled program trace n v out
       put-whole e = e ∙ whole-filled
 
-      pub filled-begins : length (layout c) ≤ length out → filled program trace n label v out ≡ begins (layout c) out
+      pub filled-begins : length (layout c) ≤ length out → filled program trace n v out ≡ begins (layout c) out
       filled-begins h = sym whole-filled ∙ front-put (layout c) out h

@@ -1,10 +1,13 @@
 -- Bytes that end in the layout of contents:
+--   format-held            they end in its format
 --   contents-in            they hold the contents
 --   layout-fields          their trailer passes its checks
 --   layout-left            the bytes before the program are those before the layout
 --   same-layout            contents with the same layout are the same
 use mathlib.Core.Path.{_≡_, refl, sym, ap, _∙_}
 use mathlib.Core.List.{List, [], _∷_, _++_}
+use mathlib.Core.Option.{Option, none, some}
+use Rattle.layout.specs.declared.Format.{Format}
 use Prim.Native.Nat.{ℕ, _+_, _-_, _≤_}
 use native.Mathlib.Omega.{arith}
 use lib.ListN.{length, take, length-append}
@@ -12,17 +15,31 @@ use lib.Seq.{take-at, drop-append-seam}
 use Rattle.trace.specs.{pack}
 use Rattle.trace.proofs.Packing.{bytes-few, length-pack, samples-packed}
 use Rattle.trace.proofs.Padding.{packed-clean}
-use Rattle.rule.specs.Form.{encode}
+use Rattle.rule.proofs.Places.{program-bytes}
 use Rattle.encoding.specs.{lowFirst}
 use Rattle.encoding.proofs.Low.{length-low}
-use Rattle.layout.specs.Form.{Contents, format, mark, labelBytes, afterTrace, trailerBytes, traceDistance, programDistance, trailer, layout, Stated}
-use Rattle.layout.specs.Trailer.{partOf, traceSpan, trailerAt, programDistanceIn, traceDistanceIn, samplesIn, formatIn, markIn, verdictIn, passesIn, partsIn, contentsIn}
+use Rattle.layout.specs.Form.{formats, formatFor, Contents, formatOf, mark, labelBytes, labelSize, afterTrace, trailerBytes, resultBytes, traceDistance, programDistance, trailer, labelPart, layoutIn, layout, LabelFits, Stated}
+use Rattle.layout.specs.Trailer.{partOf, traceSpan, trailerAt, programDistanceIn, traceDistanceIn, samplesIn, formatIn, formatHeld, markIn, verdictIn, passesIn, labelPlace, labelAt, partsFor, partsIn, contentsIn, contentsAt}
+use Rattle.layout.proofs.FormatLaws.{held-reads, label-few, label-size}
 use Rattle.layout.proofs.Fields.{Fields}
 use Rattle.layout.proofs.Places.{Stands, part-there, byte-there, number-there, next-there}
+
+-- the label that stands at the place for it
+label-there : (bytes : List ℕ) (at : ℕ) (label : Option (List ℕ)) {z : List ℕ} → LabelFits label
+    → Stands bytes at (labelPart label) z → labelAt bytes (labelPlace (formatFor label) at) ≡ label
+unfolding labelPlace
+label-there bytes at (some label) e s = ap (λ (l : List ℕ). some l) (part-there labelBytes s e)
+label-there bytes at none e s = refl
 
 module _ (before : List ℕ) (c : Contents) (s : Stated c) where
   abbrev Bytes : List ℕ
   Bytes = before ++ layout c
+
+  abbrev F : Format
+  F = formatOf c
+
+  size : length (labelPart (c .label)) ≡ labelSize F
+  size = label-size (c .label) (s .label)
 
   -- ---- The places
 
@@ -32,73 +49,72 @@ module _ (before : List ℕ) (c : Contents) (s : Stated c) where
 
   -- what follows the label, and what follows the distances
   abbrev result : List ℕ
-  result = c .verdict ∷ lowFirst 4 (c .passes) ++ trailer c
+  result = c .verdict ∷ lowFirst 4 (c .passes) ++ trailer F c
 
   abbrev ending : List ℕ
-  ending = lowFirst 2 (length (c .samples)) ++ (format ∷ mark ∷ [])
+  ending = lowFirst 2 (length (c .samples)) ++ (F .number ∷ mark ∷ [])
 
-  length-bytes : length Bytes ≡ length before + programDistance c + trailerBytes
-  unfolding layout
-  length-bytes = simp (length-append, length-low) (omega (arith, s .label))
+  length-bytes : length Bytes ≡ length before + programDistance F c + trailerBytes
+  unfolding layoutIn
+  length-bytes = simp (length-append, length-low) (omega (arith, size))
 
-  start : place - programDistance c ≡ length before
+  start : place - programDistance F c ≡ length before
   start = omega (arith, length-bytes)
 
-  from-program : Stands Bytes (place - programDistance c) (c .program) (pack (c .samples) ++ (c .label ++ result))
-  unfolding layout
+  from-program : Stands Bytes (place - programDistance F c) (c .program) (pack (c .samples) ++ (labelPart (c .label) ++ result))
+  unfolding layoutIn
   from-program = rw start (record { there = drop-append-seam before (layout c) })
 
-  from-trace : Stands Bytes (place - traceDistance c) (pack (c .samples)) (c .label ++ result)
+  from-trace : Stands Bytes (place - traceDistance F c) (pack (c .samples)) (labelPart (c .label) ++ result)
   from-trace = next-there from-program (omega (arith, length-bytes))
 
-  from-label : Stands Bytes (place - afterTrace) (c .label) result
+  from-label : Stands Bytes (place - afterTrace F) (labelPart (c .label)) result
   from-label = next-there from-trace (omega (arith, length-bytes))
 
-  from-verdict : Stands Bytes (place - 5) (c .verdict ∷ []) (lowFirst 4 (c .passes) ++ trailer c)
-  from-verdict = next-there from-label (omega (arith, length-bytes, s .label))
+  from-verdict : Stands Bytes (place - resultBytes) (c .verdict ∷ []) (lowFirst 4 (c .passes) ++ trailer F c)
+  from-verdict = next-there from-label (omega (arith, length-bytes, size))
 
-  from-passes : Stands Bytes (place - 4) (lowFirst 4 (c .passes)) (trailer c)
+  from-passes : Stands Bytes (place - 4) (lowFirst 4 (c .passes)) (trailer F c)
   from-passes = next-there from-verdict (omega (arith, length-bytes))
 
-  from-first : Stands Bytes place (lowFirst 2 (programDistance c)) (lowFirst 2 (traceDistance c) ++ ending)
+  from-first : Stands Bytes place (lowFirst 2 (programDistance F c)) (lowFirst 2 (traceDistance F c) ++ ending)
   from-first = next-there from-passes (omega (arith, length-bytes, length-low 4 (c .passes)))
 
-  from-second : Stands Bytes (place + 2) (lowFirst 2 (traceDistance c)) ending
-  from-second = next-there from-first (omega (arith, length-low 2 (programDistance c)))
+  from-second : Stands Bytes (place + 2) (lowFirst 2 (traceDistance F c)) ending
+  from-second = next-there from-first (omega (arith, length-low 2 (programDistance F c)))
 
-  from-count : Stands Bytes (place + 4) (lowFirst 2 (length (c .samples))) (format ∷ mark ∷ [])
-  from-count = next-there from-second (omega (arith, length-low 2 (traceDistance c)))
+  from-count : Stands Bytes (place + 4) (lowFirst 2 (length (c .samples))) (F .number ∷ mark ∷ [])
+  from-count = next-there from-second (omega (arith, length-low 2 (traceDistance F c)))
 
-  from-format : Stands Bytes (place + 6) (format ∷ []) (mark ∷ [])
-  from-format = next-there from-count (omega (arith, length-low 2 (length (c .samples))))
+  from-format : Stands Bytes (length Bytes - 2) (F .number ∷ []) (mark ∷ [])
+  from-format = next-there from-count (omega (arith, length-bytes, length-low 2 (length (c .samples))))
 
-  from-mark : Stands Bytes (place + 7) (mark ∷ []) []
-  from-mark = next-there from-format (omega arith)
+  from-mark : Stands Bytes (length Bytes - 1) (mark ∷ []) []
+  from-mark = next-there from-format (omega (arith, length-bytes))
 
   -- ---- What stands there
 
   trace-short : length (pack (c .samples)) ≤ 512
   trace-short = bytes-few (length (c .samples)) (s .few) (length-pack (c .samples))
 
-  program-some : 1 ≤ length (c .program)
-  unfolding encode
-  program-some = rw (s .program .1 .encoded) (omega arith)
-
-  first-in : programDistanceIn Bytes ≡ programDistance c
+  first-in : programDistanceIn Bytes ≡ programDistance F c
   unfolding programDistanceIn
-  first-in = number-there 2 (programDistance c) from-first (omega (arith, s .program .1 .short, trace-short))
+  first-in = number-there 2 (programDistance F c) from-first (omega (arith, s .program .1 .short, trace-short, label-few F))
 
-  second-in : traceDistanceIn Bytes ≡ traceDistance c
+  second-in : traceDistanceIn Bytes ≡ traceDistance F c
   unfolding traceDistanceIn
-  second-in = number-there 2 (traceDistance c) from-second (omega (arith, trace-short))
+  second-in = number-there 2 (traceDistance F c) from-second (omega (arith, trace-short, label-few F))
 
   count-in : samplesIn Bytes ≡ length (c .samples)
   unfolding samplesIn
   count-in = number-there 2 (length (c .samples)) from-count (omega (arith, s .few))
 
-  format-in : formatIn Bytes ≡ format
+  format-in : formatIn Bytes ≡ F .number
   unfolding formatIn
   format-in = byte-there from-format
+
+  pub format-held : formatHeld formats Bytes ≡ F
+  format-held = rw format-in (held-reads (c .label) .found)
 
   mark-in : markIn Bytes ≡ mark
   unfolding markIn
@@ -112,15 +128,18 @@ module _ (before : List ℕ) (c : Contents) (s : Stated c) where
   unfolding passesIn
   passes-in = number-there 4 (c .passes) from-passes (s .fits)
 
-  trace-in : partOf Bytes (traceSpan Bytes) ≡ pack (c .samples)
+  trace-in : partOf Bytes (traceSpan F Bytes) ≡ pack (c .samples)
   trace-in =
-      let size : traceDistance c - afterTrace ≡ length (pack (c .samples)) = omega arith in
+      let size : traceDistance F c - afterTrace F ≡ length (pack (c .samples)) = omega arith in
       rw (second-in, size) (part-there (length (pack (c .samples))) from-trace refl)
 
-  pub contents-in : contentsIn Bytes ≡ c
-  unfolding partsIn
-  contents-in =
-      let program : programDistance c - traceDistance c ≡ length (c .program) = omega arith in
+  label-in : labelAt Bytes (labelPlace F (place - afterTrace F)) ≡ c .label
+  label-in = label-there Bytes (place - afterTrace F) (c .label) (s .label) from-label
+
+  contents-for : contentsAt Bytes (partsFor F Bytes) ≡ c
+  unfolding partsFor
+  contents-for =
+      let program : programDistance F c - traceDistance F c ≡ length (c .program) = omega arith in
       rw (
         trace-in,
         first-in,
@@ -128,13 +147,16 @@ module _ (before : List ℕ) (c : Contents) (s : Stated c) where
         count-in,
         verdict-in,
         passes-in,
+        label-in,
         program,
         part-there (length (c .program)) from-program refl,
-        part-there labelBytes from-label (s .label),
         samples-packed (c .samples),
       )
 
-  pub layout-fields : Fields Bytes
+  pub contents-in : contentsIn Bytes ≡ c
+  contents-in = ap (λ (G : Format). contentsAt Bytes (partsFor G Bytes)) format-held ∙ contents-for
+
+  pub layout-fields : Fields F Bytes
   layout-fields =
       record {
         room = omega (arith, length-bytes);
@@ -142,15 +164,15 @@ module _ (before : List ℕ) (c : Contents) (s : Stated c) where
         formatted = format-in;
         few = rw count-in (s .few);
         second = rw (second-in, count-in, length-pack (c .samples));
-        larger = rw (first-in, second-in) (omega (arith, program-some));
+        larger = rw (first-in, second-in) (omega (arith, program-bytes (c .program) (s .program .0) (s .program .1)));
         before = rw first-in (omega (arith, length-bytes));
         clean = rw (trace-in, count-in) (packed-clean (c .samples));
         verdict = rw verdict-in (s .verdict);
-        some = rw passes-in (s .some);
+        counted = rw passes-in (s .counted);
       }
 
   pub layout-left : take (partsIn Bytes .program .start) Bytes ≡ before
-  unfolding partsIn
+  unfolding partsFor
   layout-left = rw (first-in, start) (take-at before (layout c) (length before) refl)
 
 pub same-layout : (c c′ : Contents) → Stated c → Stated c′ → layout c ≡ layout c′ → c ≡ c′

@@ -1,4 +1,5 @@
 pub mod Answers
+pub mod FormatLaws
 pub mod Fields
 pub mod Places
 pub mod Inverse

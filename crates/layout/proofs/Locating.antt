@@ -1,5 +1,5 @@
 -- The trailer's checks, one law for each way through the code:
---   missing, wrong-mark, wrong-format        1 and 2
+--   missing, wrong-mark, unknown             1 and 2
 --   faulty                                   3
 --   distances                                what 3 leaves
 --   sound                                    23, 4, or the parts
@@ -17,47 +17,49 @@ use Rattle.refusal.specs.declared.Refusal.the-variants.{TrailerMissing, MarkOrF
 use Rattle.trace.specs.{bytesFor}
 use Rattle.encoding.specs.{fromLow}
 use Rattle.layout.specs.declared.Reading.the-variants as read
-use Rattle.layout.specs.Form.{format, mark, trailerBytes}
-use Rattle.layout.specs.Trailer.{partOf, numberAt, trailerAt, programDistanceIn, traceDistanceIn, samplesIn, formatIn, markIn, verdictIn, passesIn, fieldsFault, trailerCheck, partsIn, located}
+use Rattle.layout.specs.declared.Format.{Format}
+use Rattle.layout.specs.Form.{formats, knows, mark, trailerBytes}
+use Rattle.layout.specs.Trailer.{partOf, numberAt, trailerAt, programDistanceIn, traceDistanceIn, samplesIn, formatIn, formatHeld, markIn, verdictIn, passesIn, fieldsFault, trailerCheckWith, partsFor, locatedWith, located}
 use Rattle.layout.specs.Steps.{Distances, partsStored}
 use Rattle.layout.proofs.Fields.{fields-sound}
 
 module _ (bytes : List ℕ) where
   pub missing : length bytes < trailerBytes → read.Refused TrailerMissing ≡ located bytes
-  unfolding located trailerCheck
+  unfolding locatedWith trailerCheckWith
   missing h = rw (lt-ltb (length bytes) trailerBytes h)
 
   module _ (long : trailerBytes ≤ length bytes) where
     pub wrong-mark : (markIn bytes ≡ mark → ⊥) → read.Refused MarkOrFormat ≡ located bytes
-    unfolding located trailerCheck
+    unfolding locatedWith trailerCheckWith
     wrong-mark m = rw (le-ltb (length bytes) trailerBytes long, ne-eqb (markIn bytes) mark m)
 
-    pub wrong-format : markIn bytes ≡ mark → (formatIn bytes ≡ format → ⊥) → read.Refused MarkOrFormat ≡ located bytes
-    unfolding located trailerCheck
-    wrong-format m f = rw (le-ltb (length bytes) trailerBytes long, eq-eqb (markIn bytes) mark m, ne-eqb (formatIn bytes) format f)
+    pub unknown : markIn bytes ≡ mark → knows formats (formatIn bytes) ≡ false → read.Refused MarkOrFormat ≡ located bytes
+    unfolding locatedWith trailerCheckWith
+    unknown m k = rw (le-ltb (length bytes) trailerBytes long, eq-eqb (markIn bytes) mark m, k)
 
-    module _ (m : markIn bytes ≡ mark) (f : formatIn bytes ≡ format) {first second n : ℕ} {fault : Bool}
+    module _ (m : markIn bytes ≡ mark) (k : knows formats (formatIn bytes) ≡ true) {F : Format} (f : F ≡ formatHeld formats bytes)
+        {first second n : ℕ} {fault : Bool}
         (p : first ≡ numberAt 2 (trailerAt bytes) bytes) (q : second ≡ numberAt 2 (trailerAt bytes + 2) bytes)
         (r : n ≡ numberAt 2 (trailerAt bytes + 4) bytes)
-        (e : fault ≡ fieldsFault (trailerAt bytes) first second n) where
-      told : fieldsFault (trailerAt bytes) (programDistanceIn bytes) (traceDistanceIn bytes) (samplesIn bytes) ≡ fault
+        (e : fault ≡ fieldsFault F (trailerAt bytes) first second n) where
+      told : fieldsFault F (trailerAt bytes) (programDistanceIn bytes) (traceDistanceIn bytes) (samplesIn bytes) ≡ fault
       unfolding programDistanceIn traceDistanceIn samplesIn
       told = rw (← p, ← q, ← r) (sym e)
 
       pub faulty : fault ≡ true → read.Refused TrailerFields ≡ located bytes
-      unfolding located trailerCheck
-      faulty w = rw (le-ltb (length bytes) trailerBytes long, eq-eqb (markIn bytes) mark m, eq-eqb (formatIn bytes) format f, told ∙ w)
+      unfolding locatedWith trailerCheckWith
+      faulty w = rw (le-ltb (length bytes) trailerBytes long, eq-eqb (markIn bytes) mark m, k, ← f, told ∙ w)
 
-      pub sound : fault ≡ false → partsStored bytes (trailerAt bytes) first second n ≡ located bytes
-      unfolding located trailerCheck partsStored partsIn verdictIn passesIn programDistanceIn traceDistanceIn samplesIn
+      pub sound : fault ≡ false → partsStored bytes F (trailerAt bytes) first second n ≡ located bytes
+      unfolding locatedWith trailerCheckWith partsStored partsFor verdictIn passesIn programDistanceIn traceDistanceIn samplesIn
       sound w =
-          rw (le-ltb (length bytes) trailerBytes long, eq-eqb (markIn bytes) mark m, eq-eqb (formatIn bytes) format f, told ∙ w, ← p, ← q, ← r)
+          rw (le-ltb (length bytes) trailerBytes long, eq-eqb (markIn bytes) mark m, k, ← f, told ∙ w, ← p, ← q, ← r)
 
-pub distances : (len first second n : ℕ) → trailerBytes ≤ len → fieldsFault (len - trailerBytes) first second n ≡ false
-    → Distances len (len - trailerBytes) first second
+pub distances : (F : Format) (len first second n : ℕ) → trailerBytes ≤ len → fieldsFault F (len - trailerBytes) first second n ≡ false
+    → Distances F len (len - trailerBytes) first second
 unfolding bytesFor
-distances len first second n long e =
-    let s = fields-sound _ first second n e in
+distances F len first second n long e =
+    let s = fields-sound F _ first second n e in
     record { trailer = omega arith; within = s .within; larger = s .larger; tail = omega (arith, s .exact) }
 
 -- ---- Numbers at a place

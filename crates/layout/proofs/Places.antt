@@ -1,5 +1,4 @@
 -- Where the parts of a record stand in the bytes that it is read from:
---   bytes-take                     some of a list of bytes are bytes
 --   split, split-byte,
 --   split-number                   the bytes from a place on: a part, a byte or a number, and the bytes after it
 --   length-part, bytes-part        a part's length, and its bytes
@@ -7,30 +6,29 @@
 --   Stands                         what the bytes are from a place on
 --   part-there, byte-there,
 --   number-there, next-there       the part, byte or number that stands at a place, and what stands after it
---   Within, within                 the parts lie within the bytes
+--   LabelWithin, Within, within    the parts lie within the bytes
 use mathlib.Core.Path.{_≡_, sym, ap, _∙_}
+use mathlib.Core.Bool.{Bool, true, false, cond}
 use mathlib.Core.List.{List, [], _∷_, _++_}
-use Prim.Native.Nat.{ℕ, zero, suc, _+_, _^_, _<_, _≤_}
+use Prim.Native.Nat.{ℕ, _+_, _-_, _^_, _<_, _≤_}
 use native.Mathlib.Omega.{arith}
 use native.Mathlib.Numerals.{add-one}
 use lib.ListN.{length, getD, take, drop, length-drop, take-append-drop}
 use lib.Seq.{length-take-le, take-at, drop-append-seam, drop-cons, drop-drop, getD-drop}
 use Rattle.trace.specs.{mostSamples}
 use Rattle.rule.specs.Form.{AreBytes}
-use Rattle.rule.proofs.FunctionBytes.{bytes-drop}
+use Rattle.rule.proofs.FunctionBytes.{bytes-take, bytes-drop}
 use Rattle.encoding.specs.{lowFirst, fromLow}
 use Rattle.encoding.proofs.Low.{length-low, from-low, low-from, from-below}
+use Rattle.layout.specs.declared.Format.{Format}
+use Rattle.layout.specs.declared.Label.{Label}
+use Rattle.layout.specs.declared.Label.the-variants.{Absent, At}
 use Rattle.layout.specs.declared.Parts.{Parts}
-use Rattle.layout.specs.Trailer.{partOf, span, numberAt, partsIn}
+use Rattle.layout.specs.Form.{labelBytes, afterTrace}
+use Rattle.layout.specs.Trailer.{partOf, span, numberAt, trailerAt, labelPlace, partsFor}
 use Rattle.layout.proofs.Fields.{Fields}
 
 -- ---- Parts of bytes
-
-pub bytes-take : (n : ℕ) (bs : List ℕ) → AreBytes bs → AreBytes (take n bs)
-bytes-take zero bs are i = omega arith
-bytes-take (suc n) [] are i = omega arith
-bytes-take (suc n) (b ∷ bs) are zero = are 0
-bytes-take (suc n) (b ∷ bs) are (suc i) = bytes-take n bs (λ j. are (suc j)) i
 
 module _ (bytes : List ℕ) where
   pub split : (at size : ℕ) {next : ℕ} → at + size ≡ next → drop at bytes ≡ partOf bytes (span at size) ++ drop next bytes
@@ -89,21 +87,34 @@ module _ {bytes : List ℕ} {at : ℕ} where
 
 -- ---- The parts of a record
 
--- the parts lie within the bytes; from the program's first byte on there are at least 22
+-- a label lies within the bytes
+abbrev pub LabelWithin : List ℕ → Label → Type 0
+LabelWithin bytes (At s) = s .start + s .length ≤ length bytes
+LabelWithin bytes Absent = Unit {0}
+
+-- the parts lie within the bytes, and the program begins before their end
 pub record Within (bytes : List ℕ) (p : Parts) : Type 0 where
-  pub start22 : p .program .start + 22 ≤ length bytes
+  pub some : p .program .start < length bytes
   pub program : p .program .start + p .program .length ≤ length bytes
   pub trace : p .trace .start + p .trace .length ≤ length bytes
-  pub label : p .label .start + p .label .length ≤ length bytes
+  pub label : LabelWithin bytes (p .label)
   pub few : p .n ≤ mostSamples
 
-pub within : (bytes : List ℕ) → Fields bytes → Within bytes (partsIn bytes)
-unfolding partsIn
-within bytes f =
+label-within : (F : Format) (bytes : List ℕ) → Fields F bytes → LabelWithin bytes (labelPlace F (trailerAt bytes - afterTrace F))
+unfolding labelPlace
+label-within F bytes f = go (F .labelled)
+  where
+    go : (b : Bool) → LabelWithin bytes (cond b (At (span (trailerAt bytes - afterTrace F) labelBytes)) Absent)
+    go true = omega (arith, f .room)
+    go false = tt
+
+pub within : (F : Format) (bytes : List ℕ) → Fields F bytes → Within bytes (partsFor F bytes)
+unfolding partsFor
+within F bytes f =
     record {
-      start22 = omega arith;
+      some = omega (arith, f .room, f .larger, f .before);
       program = omega arith;
       trace = omega arith;
-      label = omega arith;
+      label = label-within F bytes f;
       few = f .few;
     }

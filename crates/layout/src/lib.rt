@@ -1,5 +1,6 @@
 // The bytes of a record: how its parts stand in them, whether it is read or written. Every operation answers for all
 // bytes and numbers; a part ends where the bytes do, and a record that there is no room for is not written.
+mod formats;
 mod pieces;
 mod trailer;
 
@@ -9,21 +10,29 @@ ghost use mathlib.Core.Path.{_≡_};
 ghost use Rattle.layout.specs.Trailer.{partOf, located};
 ghost use Rattle.layout.specs.Filling.{filled};
 
-// The format and the mark of a record.
-pub const FORMAT: u8 = 1;
+// The numbers of the formats, 1 with a site label and 2 without; records are written in 2. The mark of a record.
+pub const FORMAT_1: u8 = 1;
+
+pub const FORMAT_2: u8 = 2;
 
 pub const MARK: u8 = 0x52;
 
-// The bytes of a site label, of the trailer, and of what stands between the trace and the trailer: the
-// label, the verdict byte and the pass count.
+// The bytes of a site label; of the verdict byte and the pass count, which in format 2 are all that stands between
+// trace and trailer; and of the trailer.
 pub const LABEL: usize = 8;
+
+pub const RESULT: usize = 5;
 
 pub const TRAILER: usize = 8;
 
-pub const AFTER_TRACE: usize = 13;
-
 // The highest number of a verdict.
 pub const MOST_VERDICT: u8 = 4;
+
+// A format of records: its number, and whether its records have a site label.
+pub struct Format {
+    pub number: u8,
+    pub labelled: bool,
+}
 
 // A part of the caller's bytes.
 pub struct Span {
@@ -31,13 +40,20 @@ pub struct Span {
     pub length: usize,
 }
 
-// The parts of a record: where they stand in the caller's bytes, and the numbers stored. The bytes before
-// the record are those before its program.
+// The site label of a record: there is none, or its eight bytes stand at a place.
+pub enum Label {
+    Absent,
+    At(Span),
+}
+
+// The parts of a record: the number of its format, where they stand in the caller's bytes, and the numbers stored. The
+// bytes before the record are those before its program.
 pub struct Parts {
+    pub format: u8,
     pub program: Span,
     pub trace: Span,
     pub n: u16,
-    pub label: Span,
+    pub label: Label,
     pub verdict: u8,
     pub passes: u32,
 }
@@ -56,20 +72,22 @@ pub fn locate(bytes: &[u8]) -> Reading
     if len < TRAILER {
         return Reading::Refused(Refusal::TrailerMissing);
     }
+    if bytes[len - 1] != MARK {
+        return Reading::Refused(Refusal::MarkOrFormat);
+    }
+    let number = bytes[len - 2];
+    if !formats::knows(number) {
+        return Reading::Refused(Refusal::MarkOrFormat);
+    }
+    let format = formats::numbered(number);
     let at = len - TRAILER;
-    if bytes[at + 7] != MARK {
-        return Reading::Refused(Refusal::MarkOrFormat);
-    }
-    if bytes[at + 6] != FORMAT {
-        return Reading::Refused(Refusal::MarkOrFormat);
-    }
     let first = trailer::sixteen(bytes, at) as usize;
     let second = trailer::sixteen(bytes, at + 2) as usize;
     let n = trailer::sixteen(bytes, at + 4);
-    if trailer::fields_fault(at, first, second, n as usize) {
+    if trailer::fields_fault(format, at, first, second, n as usize) {
         return Reading::Refused(Refusal::TrailerFields);
     }
-    trailer::stored_parts(bytes, at, first, second, n)
+    trailer::stored_parts(bytes, format, at, first, second, n)
 }
 
 // A part of the bytes, as far as they go.
@@ -89,10 +107,10 @@ pub fn part(bytes: &[u8], span: Span) -> &[u8]
     &bytes[start..end]
 }
 
-// Writes a record to the front of the output, with the trace's very bytes. Where these are not those of n samples, the
-// verdict has a number that no record holds, or there is no room, nothing is written.
-pub fn fill(program: &[u8], trace: &[u8], n: u16, label: [u8; 8], verdict: Verdict, out: &mut [u8])
-    ensures { λ _. ⌜ now (out .exit) ≡ filled (now (program .entry)) (now (trace .entry)) n label verdict (now (out .entry)) ⌝ }
+// Writes a record of format 2 to the front of the output, with the trace's very bytes. Where these are not those of n
+// samples, the verdict has a number that no record holds, or there is no room, nothing is written.
+pub fn fill(program: &[u8], trace: &[u8], n: u16, verdict: Verdict, out: &mut [u8])
+    ensures { λ _. ⌜ now (out .exit) ≡ filled (now (program .entry)) (now (trace .entry)) n verdict (now (out .entry)) ⌝ }
 {
     if !pieces::is_packing(trace, n as usize) {
         return;
@@ -102,17 +120,16 @@ pub fn fill(program: &[u8], trace: &[u8], n: u16, label: [u8; 8], verdict: Verdi
     if (MOST_VERDICT as u32) < number {
         return;
     }
-    let second = trace.len() + AFTER_TRACE;
+    let second = trace.len() + RESULT;
     let first = program.len() + second;
     if out.len() < first + TRAILER {
         return;
     }
     let after_program = encoding::put(out, 0, program);
     let after_trace = encoding::put(out, after_program, trace);
-    let after_label = encoding::put(out, after_trace, &label);
     let after_passes = encoding::put(
         out,
-        after_label,
+        after_trace,
         &pieces::verdict_bytes(number as u8, verdict.passes),
     );
     encoding::put(out, after_passes, &pieces::trailer_bytes(first, second, n));

@@ -2,7 +2,7 @@
 ghost use mathlib.Core.Path.{_≡_};
 ghost use mathlib.Core.List.{[], _∷_, _++_};
 ghost use Rattle.encoding.specs.{lowFirst};
-ghost use Rattle.layout.specs.Form.{format, mark};
+ghost use Rattle.layout.specs.Form.{format2, mark};
 ghost use Rattle.layout.specs.Filling.{isPacking as Filling·isPacking};
 
 // Whether bytes are those of n samples: as many as these take, with no bit above the last set.
@@ -23,9 +23,9 @@ pub fn verdict_bytes(number: u8, passes: u32) -> [u8; 5]
     [number, low[0], low[1], low[2], low[3]]
 }
 
-// The trailer; of a distance, the low 16 bits.
+// The trailer of format 2; of a distance, the low 16 bits.
 pub fn trailer_bytes(first: usize, second: usize, n: u16) -> [u8; 8]
-    ensures { λ r. ⌜ r ≡ lowFirst 2 first ++ (lowFirst 2 second ++ (lowFirst 2 n ++ (format ∷ mark ∷ []))) ⌝ }
+    ensures { λ r. ⌜ r ≡ lowFirst 2 first ++ (lowFirst 2 second ++ (lowFirst 2 n ++ (format2 .number ∷ mark ∷ []))) ⌝ }
 {
     let a = encoding::low16((first % 65536) as u16);
     let b = encoding::low16((second % 65536) as u16);
@@ -37,7 +37,7 @@ pub fn trailer_bytes(first: usize, second: usize, n: u16) -> [u8; 8]
         b[1],
         c[0],
         c[1],
-        crate::FORMAT,
+        crate::FORMAT_2,
         crate::MARK,
     ]
 }

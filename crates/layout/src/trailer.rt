@@ -1,7 +1,9 @@
 // The trailer and the bytes before it: numbers at a place, 3, 23 and 4 of the list, and where the parts stand.
+use crate::Format;
 use crate::Parts;
 use crate::Reading;
 use crate::Span;
+use crate::formats;
 use refusal::Refusal;
 ghost use mathlib.Core.Path.{_≡_};
 ghost use Prim.Native.Nat.{_+_, _≤_};
@@ -25,14 +27,14 @@ fn thirty_two(bytes: &[u8], at: usize) -> u32
     encoding::from32(bytes[at], bytes[at + 1], bytes[at + 2], bytes[at + 3])
 }
 
-// Whether 3 applies; so many bytes stand before the trailer.
-pub fn fields_fault(before: usize, first: usize, second: usize, n: usize) -> bool
-    ensures { λ r. ⌜ r ≡ fieldsFault before first second n ⌝ }
+// Whether 3 applies in a format; so many bytes stand before the trailer.
+pub fn fields_fault(format: Format, before: usize, first: usize, second: usize, n: usize) -> bool
+    ensures { λ r. ⌜ r ≡ fieldsFault format before first second n ⌝ }
 {
     if trace::MOST_SAMPLES < n {
         return true;
     }
-    if second != trace::bytes_for(n) + crate::AFTER_TRACE {
+    if second != trace::bytes_for(n) + formats::after_trace(format) {
         return true;
     }
     if first <= second {
@@ -41,18 +43,27 @@ pub fn fields_fault(before: usize, first: usize, second: usize, n: usize) -> boo
     before < first
 }
 
-// The parts of a record whose trailer stands at a place and has these fields, unless 23 or 4 applies.
-pub fn stored_parts(bytes: &[u8], at: usize, first: usize, second: usize, n: u16) -> Reading
-    requires { ⌜ Distances (length (now bytes)) at first second ⌝ }
-    ensures { λ r. ⌜ r ≡ partsStored (now (bytes .entry)) at first second n ⌝ }
+// The parts of a record of a format whose trailer stands at a place and has these fields, unless 23 or 4 applies.
+pub fn stored_parts(
+    bytes: &[u8],
+    format: Format,
+    at: usize,
+    first: usize,
+    second: usize,
+    n: u16,
+) -> Reading
+    requires { ⌜ Distances format (length (now bytes)) at first second ⌝ }
+    ensures { λ r. ⌜ r ≡ partsStored (now (bytes .entry)) format at first second n ⌝ }
 {
+    let after = formats::after_trace(format);
     let trace = Span {
         start: at - second,
-        length: second - crate::AFTER_TRACE,
+        length: second - after,
     };
     let count = n as usize;
     let padding_set = trace::padding_set(crate::part(bytes, trace), count);
-    let verdict = bytes[at - 5];
+    let label = formats::label_place(format, at - after);
+    let verdict = bytes[at - crate::RESULT];
     let passes = thirty_two(bytes, at - 4);
     if padding_set {
         return Reading::Refused(Refusal::PaddingSet);
@@ -64,16 +75,14 @@ pub fn stored_parts(bytes: &[u8], at: usize, first: usize, second: usize, n: u16
         return Reading::Refused(Refusal::VerdictOrPasses);
     }
     Reading::Record(Parts {
+        format: format.number,
         program: Span {
             start: at - first,
             length: first - second,
         },
         trace,
         n,
-        label: Span {
-            start: at - crate::AFTER_TRACE,
-            length: crate::LABEL,
-        },
+        label,
         verdict,
         passes,
     })

@@ -3,9 +3,10 @@
 --   located-refused, program-refused,
 --   program-passed                           reading
 --   read-owed                                its answer, and that in numbers
---   record-read                              bytes that are read have passed the checks, and the parts are theirs
+--   record-read                              bytes that are read have passed the checks, and the parts are theirs; in any release
 --   parts-within                             the parts lie within the bytes
 use mathlib.Core.Path.{_≡_, refl, sym, ap, _∙_}
+use mathlib.Core.Bool.{true}
 use mathlib.Core.List.{List}
 use Prim.Native.Nat.{ℕ}
 use Rattle.refusal.specs.declared.Refusal.{Refusal}
@@ -22,11 +23,13 @@ use Rattle.evaluate.specs.Evaluate.{answerBy, evaluation}
 use Rattle.layout.specs.declared.Parts.{Parts}
 use Rattle.layout.specs.declared.Reading.{Reading}
 use Rattle.layout.specs.declared.Reading.the-variants as read
-use Rattle.layout.specs.Trailer.{partOf, trailerCheck, partsIn, contentsIn, readBy, located}
+use Rattle.layout.specs.declared.Format.{Format}
+use Rattle.layout.specs.Form.{formats, knows}
+use Rattle.layout.specs.Trailer.{partOf, formatIn, formatHeld, trailerCheckWith, partsWith, partsIn, readBy, located}
 use Rattle.layout.proofs.Answers.{read-passed, located-refusal, located-passed, parts-are}
 use Rattle.layout.proofs.Fields.{Fields, passed-fields}
 use Rattle.layout.proofs.Places.{Within, within}
-use Rattle.record.specs.Reading.{readCheck, reading, readAnswer, partsValues}
+use Rattle.record.specs.Reading.{readCheckWith, readCheck, readingWith, reading, readAnswer, partsValues}
 use Rattle.record.specs.Recording.{workedOut}
 
 -- ---- Answers of evaluating
@@ -59,22 +62,22 @@ module _ (program trace : List ℕ) (n lent : ℕ) {r : Evaluated} (e : r ≡ ev
 
 module _ (bytes : List ℕ) {r : Reading} (l : r ≡ located bytes) where
   pub located-refused : {f : Refusal} → r ≡ read.Refused f → read.Refused f ≡ reading bytes
-  unfolding reading readCheck
+  unfolding readingWith readCheckWith
   located-refused e = rw (located-refusal bytes l e)
 
   module _ {p : Parts} (e : r ≡ read.Record p) where
     pub program-refused : {f : Refusal} → programCheck (partOf bytes (p .program)) ≡ Refused f → read.Refused f ≡ reading bytes
-    unfolding reading readCheck
+    unfolding readingWith readCheckWith
     program-refused c = rw (located-passed bytes l e, parts-are bytes l e, c)
 
     pub program-passed : programCheck (partOf bytes (p .program)) ≡ Passed → read.Record p ≡ reading bytes
-    unfolding reading readCheck
+    unfolding readingWith readCheckWith
     program-passed c = rw (located-passed bytes l e, parts-are bytes l e, c)
 
 -- all that is promised of an answer: which it is, and its numbers
 pub read-owed : (bytes : List ℕ) {r : Reading} → r ≡ reading bytes
     → (r ≡ reading bytes) × (readAnswer r ≡ answerIf (readCheck bytes) (partsValues (partsIn bytes)))
-unfolding reading
+unfolding readingWith
 read-owed bytes e = (e, ap readAnswer e ∙ go (readCheck bytes))
   where
     go : (k : Check) → readAnswer (readBy k (partsIn bytes)) ≡ answerIf k (partsValues (partsIn bytes))
@@ -83,18 +86,20 @@ read-owed bytes e = (e, ap readAnswer e ∙ go (readCheck bytes))
 
 -- ---- Bytes that are read
 
--- what bytes that are read as a record have passed
-pub record Read (bytes : List ℕ) (p : Parts) : Type 0 where
-  pub fields : Fields bytes
-  pub program : programCheck (contentsIn bytes .program) ≡ Passed
-  pub parts : partsIn bytes ≡ p
+-- what bytes that are read as a record have passed, in a release that knows these formats
+pub record Read (known : List Format) (bytes : List ℕ) (p : Parts) : Type 0 where
+  pub listed : knows known (formatIn bytes) ≡ true
+  pub fields : Fields (formatHeld known bytes) bytes
+  pub program : programCheck (partOf bytes (partsWith known bytes .program)) ≡ Passed
+  pub parts : partsWith known bytes ≡ p
 
-pub record-read : (bytes : List ℕ) (p : Parts) → reading bytes ≡ read.Record p → Read bytes p
-unfolding reading readCheck
-record-read bytes p e =
-    let r = read-passed (readCheck bytes) (partsIn bytes) p e in
-    let c = then-passed (trailerCheck bytes) (programCheck (contentsIn bytes .program)) (r .0) in
-    record { fields = passed-fields bytes (c .0); program = c .1; parts = r .1 }
+pub record-read : (known : List Format) (bytes : List ℕ) (p : Parts) → readingWith known bytes ≡ read.Record p → Read known bytes p
+unfolding readingWith readCheckWith
+record-read known bytes p e =
+    let r = read-passed (readCheckWith known bytes) (partsWith known bytes) p e in
+    let c = then-passed (trailerCheckWith known bytes) (programCheck (partOf bytes (partsWith known bytes .program))) (r .0) in
+    let f = passed-fields known bytes (c .0) in
+    record { listed = f .0; fields = f .1; program = c .1; parts = r .1 }
 
 pub parts-within : (bytes : List ℕ) (p : Parts) → reading bytes ≡ read.Record p → Within bytes p
-parts-within bytes p e = let r = record-read bytes p e in rw (r .parts) at (within bytes (r .fields))
+parts-within bytes p e = let r = record-read formats bytes p e in rw (r .parts) at (within (formatHeld formats bytes) bytes (r .fields))

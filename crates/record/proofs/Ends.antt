@@ -1,40 +1,81 @@
 -- Bytes that are read as a record end in the layout of what they hold:
---   ends-in                it is stated, and the bytes are those before the record and its layout
---   accepts-exactly        reading accepts exactly the bytes that end in a record
+--   ends-in                it is stated, of the format told, and the bytes are those before the record and its layout
+--   record-least           so it has at least 19 bytes
+--   accepts-exactly        reading accepts exactly the bytes that end in a record, in each format
 --   own-layout             a record's own bytes are the layout of what it holds
 --   same-exactly           so two records that are read hold the same exactly when their own bytes are the same
 use mathlib.Core.Path.{_≡_, sym, ap, _∙_}
 use mathlib.Core.List.{List}
-use Prim.Native.Nat.{ℕ}
-use lib.ListN.{take}
+use Prim.Native.Nat.{ℕ, _+_, _≤_}
+use native.Mathlib.Omega.{arith}
+use lib.ListN.{length, take, length-append}
+use lib.Seq.{length-take-le}
 use Rattle.rule.specs.Form.{AreBytes}
 use Rattle.layout.specs.declared.Parts.{Parts}
 use Rattle.layout.specs.declared.Reading.the-variants as read
-use Rattle.layout.specs.Trailer.{partsIn, contentsAt}
-use Rattle.layout.specs.Form.{layout}
-use Rattle.layout.proofs.Ends.{contents-stated, from-program, ends-whole}
+use Rattle.layout.specs.declared.Format.{Format}
+use Rattle.layout.specs.Trailer.{formatIn, formatHeld, partsFor, partsIn, contentsAt}
+use Rattle.layout.specs.Form.{formats, formatOf, layout}
+use Rattle.layout.proofs.FormatLaws.{ByLabel, numbered-by-label}
+use Rattle.layout.proofs.Fields.{Fields}
+use Rattle.layout.proofs.Filling.{length-layout}
+use Rattle.layout.proofs.Ends.{contents-stated, format-back, from-program, ends-whole}
+use Rattle.rule.proofs.Places.{program-bytes}
 use Rattle.layout.proofs.Inverse.{same-layout}
 use Rattle.record.specs.Reading.{reading}
 use Rattle.record.specs.Inverse.{EndsIn, EndInRecord, AcceptsExactly, ownBytes, SameExactly}
-use Rattle.record.proofs.Answers.{record-read}
+use Rattle.record.proofs.Answers.{record-read, parts-within}
 use Rattle.record.proofs.Inverse.{read-back}
+
+-- the number told is that of the format of what the bytes hold
+format-told : (bytes : List ℕ) → AreBytes bytes → (F : Format) → ByLabel F → Fields F bytes
+    → partsFor F bytes .format ≡ formatOf (contentsAt bytes (partsFor F bytes)) .number
+unfolding partsFor
+format-told bytes are F by f = ap (λ (G : Format). G .number) (sym (format-back F bytes are f by))
 
 pub ends-in : (bytes : List ℕ) (p : Parts) → AreBytes bytes → reading bytes ≡ read.Record p → EndsIn bytes p
 ends-in bytes p are e =
-    let r = record-read bytes p e in
+    let r = record-read formats bytes p e in
+    let F = formatHeld formats bytes in
+    let by = numbered-by-label (formatIn bytes) (r .listed) in
     let found : EndsIn bytes (partsIn bytes) =
-    record { stated = contents-stated bytes are (r .fields) (r .program); whole = ends-whole bytes are (r .fields) } in
+    record {
+      stated = contents-stated F bytes are (r .fields) (r .program);
+      format = format-told bytes are F by (r .fields);
+      whole = ends-whole F bytes are (r .fields) by;
+    } in
     rw (r .parts) at found
 
+pub record-least : (bytes : List ℕ) (p : Parts) → AreBytes bytes → reading bytes ≡ read.Record p → p .program .start + 19 ≤ length bytes
+record-least bytes p are e =
+    let w = ends-in bytes p are e in
+    let c = contentsAt bytes p in
+    let start = p .program .start in
+    let within = parts-within bytes p e in
+    omega (
+      arith,
+      ap length (w .whole),
+      length-append (take start bytes) (layout c),
+      length-take-le start bytes (omega (arith, within .some)),
+      length-layout c,
+      program-bytes (c .program) (w .stated .program .0) (w .stated .program .1),
+    )
+
 pub accepts-exactly : (bytes : List ℕ) → AreBytes bytes → AcceptsExactly bytes
-accepts-exactly bytes are =
-    (λ r. let w = ends-in bytes (r .0) are (r .1) in (take (r .0 .program .start) bytes, contentsAt bytes (r .0), w .stated, w .whole), found)
+accepts-exactly bytes are k = (ended, found)
   where
-    found : EndInRecord bytes → (p : Parts) × (reading bytes ≡ read.Record p)
-    found (before, c, s, e) = let r = read-back before c s in (r .parts, rw e (r .accepted))
+    ended : (p : Parts) × (reading bytes ≡ read.Record p) × (p .format ≡ k) → EndInRecord k bytes
+    ended (p, e, f) =
+        let w = ends-in bytes p are e in
+        (take (p .program .start) bytes, contentsAt bytes p, w .stated, sym (w .format) ∙ f, w .whole)
+
+    found : EndInRecord k bytes → (p : Parts) × (reading bytes ≡ read.Record p) × (p .format ≡ k)
+    found (before, c, s, f, e) = let r = read-back before c s in (r .parts, rw e (r .accepted), r .format ∙ f)
 
 pub own-layout : (bytes : List ℕ) (p : Parts) → AreBytes bytes → reading bytes ≡ read.Record p → ownBytes bytes p ≡ layout (contentsAt bytes p)
-own-layout bytes p are e = let r = record-read bytes p e in rw (r .parts) at (from-program bytes are (r .fields))
+own-layout bytes p are e =
+    let r = record-read formats bytes p e in
+    rw (r .parts) at (from-program (formatHeld formats bytes) bytes are (r .fields) (numbered-by-label (formatIn bytes) (r .listed)))
 
 pub same-exactly : (bytes bytes′ : List ℕ) → AreBytes bytes → AreBytes bytes′ → SameExactly bytes bytes′
 same-exactly bytes bytes′ are are′ p p′ e e′ =

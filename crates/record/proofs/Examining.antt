@@ -32,15 +32,15 @@ use Rattle.evaluate.proofs.Evaluating.{evaluation-decides}
 use Rattle.layout.specs.declared.Parts.{Parts}
 use Rattle.layout.specs.declared.Reading.{Reading}
 use Rattle.layout.specs.declared.Reading.the-variants as read
-use Rattle.layout.specs.Form.{Contents}
-use Rattle.layout.specs.Trailer.{partOf, contentsIn, trailerCheck, partsIn, readBy, located}
+use Rattle.layout.specs.Form.{formats, Contents}
+use Rattle.layout.specs.Trailer.{partOf, contentsIn, trailerCheck, partsFor, partsIn, readBy, located}
 use Rattle.layout.proofs.Answers.{located-refusal, located-passed, parts-are}
 use Rattle.layout.proofs.Fields.{passed-fields}
 use Rattle.layout.proofs.Places.{length-part}
 use Rattle.record.specs.declared.Checked.{Checked}
 use Rattle.record.specs.declared.Checked.the-variants as checked
 use Rattle.record.specs.declared.Examined.{Examined}
-use Rattle.record.specs.Reading.{readCheck}
+use Rattle.record.specs.Reading.{readCheckWith, readCheck, readingWith}
 use Rattle.record.specs.Reading.{reading as readingOf}
 use Rattle.record.specs.Checking.{recordCheck, agrees, compared, checkedBy, checking, tableChecked, examining, CheckDemand3, comparedIn, checkedAnswer, programHeld, checkNumbers}
 use Rattle.record.specs.Steps.{bothRefused, refusedBy}
@@ -70,14 +70,14 @@ module _ (bytes : List ℕ) (passed : trailerCheck bytes ≡ Passed) where
   n = partsIn bytes .n
 
   trace-fits : traceCheck trace n ≡ Passed
-  unfolding partsIn
+  unfolding partsFor
   trace-fits =
-      let f = passed-fields bytes passed in
+      let f = passed-fields formats bytes passed .1 in
       let size : length trace ≡ bytesFor n = length-part bytes _ _ (omega arith) ∙ omega arith in
       trace-passes trace n (f .few) size (f .clean)
 
   pub check-is : (lent : ℕ) → recordCheck bytes lent ≡ evaluateCheck (c .program) trace n lent
-  unfolding recordCheck readCheck evaluateCheck programCheck
+  unfolding recordCheck readCheckWith evaluateCheck programCheck
   check-is lent = rw passed (judged (programFrom (c .program)) trace n lent trace-fits)
 
   pub table-is : (T : List ℕ) {T′ : List ℕ} → T′ ≡ tableEvaluated (c .program) trace n T → T′ ≡ tableChecked bytes T
@@ -89,7 +89,7 @@ module _ (bytes : List ℕ) (passed : trailerCheck bytes ≡ Passed) where
 -- a trailer that is refused
 pub refused-both : (bytes : List ℕ) (T : List ℕ) {f : Refusal} → trailerCheck bytes ≡ Refused f
     → (bothRefused f ≡ examining bytes (length T)) × (T ≡ tableChecked bytes T)
-unfolding examining readingOf checking tableChecked recordCheck readCheck
+unfolding examining readingWith checking tableChecked recordCheck readCheckWith
 refused-both bytes T e = (rw e, rw e)
 
 -- an answer in its two parts
@@ -100,7 +100,7 @@ examined bytes lent p q = rw (p, q)
 
 -- what reading and checking answer by their checks
 read-is : (bytes : List ℕ) {k : Check} → readCheck bytes ≡ k → readBy k (partsIn bytes) ≡ readingOf bytes
-unfolding readingOf
+unfolding readingWith
 read-is bytes e = rw e
 
 checked-is : (bytes : List ℕ) (lent : ℕ) {k : Check} → recordCheck bytes lent ≡ k
@@ -129,7 +129,7 @@ module _ (bytes T : List ℕ) (passed : trailerCheck bytes ≡ Passed) {r : Eval
   -- the program's check decides whether a record that evaluating refuses is read
   pub refused-told : {f : Refusal} → r ≡ evaluated.Refused f
       → refusedBy (programCheck (contents .program)) (partsIn bytes) f ≡ examining bytes (length T)
-  unfolding readCheck recordCheck
+  unfolding readCheckWith recordCheck
   refused-told {f} q = go (programCheck (contents .program)) refl
     where
       all : recordCheck bytes (length T) ≡ Refused f

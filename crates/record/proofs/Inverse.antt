@@ -7,11 +7,13 @@ use Prim.Native.Nat.{ℕ}
 use Rattle.refusal.specs.declared.Check.the-variants.{Passed}
 use Rattle.rule.specs.Reading.{programCheck}
 use Rattle.rule.proofs.Programs.{accepted-passed}
-use Rattle.layout.specs.Form.{Contents, layout, Stated}
-use Rattle.layout.specs.Trailer.{partsIn}
+use Rattle.layout.specs.declared.Format.{Format}
+use Rattle.layout.specs.Form.{formats, Contents, formatOf, layout, Stated}
+use Rattle.layout.specs.Trailer.{partsFor, partsIn}
+use Rattle.layout.proofs.FormatLaws.{held-reads}
 use Rattle.layout.proofs.Fields.{fields-passed}
-use Rattle.layout.proofs.Inverse.{contents-in, layout-fields, layout-left}
-use Rattle.record.specs.Reading.{readCheck, reading}
+use Rattle.layout.proofs.Inverse.{format-held, contents-in, layout-fields, layout-left}
+use Rattle.record.specs.Reading.{readCheckWith, readCheck, readingWith}
 use Rattle.record.specs.Inverse.{ReadsBack}
 
 module _ (before : List ℕ) (c : Contents) (s : Stated c) where
@@ -19,13 +21,23 @@ module _ (before : List ℕ) (c : Contents) (s : Stated c) where
   Bytes = before ++ layout c
 
   pub layout-passed : readCheck Bytes ≡ Passed
-  unfolding readCheck
+  unfolding readCheckWith
   layout-passed =
-      rw (fields-passed Bytes (layout-fields before c s))
+      rw (fields-passed formats (formatOf c) Bytes (held-reads (c .label)) (layout-fields before c s))
       (ap (λ (x : Contents). programCheck (x .program)) (contents-in before c s)
       ∙ accepted-passed (c .program) (s .program .0) (s .program .1))
 
+  format-told : partsIn Bytes .format ≡ formatOf c .number
+  unfolding partsFor
+  format-told = ap (λ (F : Format). F .number) (format-held before c s)
+
   pub read-back : ReadsBack before c
-  unfolding reading
+  unfolding readingWith
   read-back =
-      record { parts = partsIn Bytes; accepted = rw layout-passed; contents = contents-in before c s; left = layout-left before c s }
+      record {
+        parts = partsIn Bytes;
+        accepted = rw layout-passed;
+        contents = contents-in before c s;
+        format = format-told;
+        left = layout-left before c s;
+      }

@@ -1,7 +1,7 @@
 -- What recording writes is read and checked as it was worked out:
 --   recorded-stated        what is recorded is what a record can hold
 --   trace-packing          its trace's very bytes are written
---   written-reads-back     so it is read back
+--   written-reads-back     so it is read back, in format 2
 --   written-agrees         and checking it answers agrees
 use mathlib.Core.Path.{_≡_, refl, ap, _∙_}
 use mathlib.Core.Bool.{true, false}
@@ -29,7 +29,8 @@ use Rattle.rule.specs.Reading as reading
 use Rattle.rule.proofs.Programs.{passed-accepted, read-encoded}
 use Rattle.prepare.specs.Checks.{traceCheck, tableCheck, checkRead, evaluateCheck}
 use Rattle.prepare.proofs.Preparing.{trace-passed, table-passed}
-use Rattle.layout.specs.Form.{Contents, labelBytes, mostVerdict, layout, Stated}
+use Rattle.layout.specs.declared.Format.{Format}
+use Rattle.layout.specs.Form.{format2, Contents, formatOf, mostVerdict, layout, Stated}
 use Rattle.layout.specs.Trailer.{contentsIn}
 use Rattle.layout.specs.Filling.{recorded}
 use Rattle.layout.specs.Filling.{isPacking}
@@ -88,8 +89,8 @@ seen program trace n lent are e =
       fits = omega (arith, table-passed (cells (samples trace n) P) lent refl (c .1) .1);
     }
 
-module _ (program trace : List ℕ) (n : ℕ) (label : List ℕ) (lent room : ℕ) (are : AreBytes program) (size : length label ≡ labelBytes)
-    (e : writeCheck program trace n label lent room ≡ check.Passed) where
+module _ (program trace : List ℕ) (n : ℕ) (lent room : ℕ) (are : AreBytes program)
+    (e : writeCheck program trace n lent room ≡ check.Passed) where
   evaluated : Seen program trace n lent
   unfolding writeCheck
   evaluated = seen program trace n lent are (then-passed _ _ e .0)
@@ -108,15 +109,15 @@ module _ (program trace : List ℕ) (n : ℕ) (label : List ℕ) (lent room : �
       let t = samples trace n in
       rw program-is (omega (arith, first-still P t (evaluated .accepted .kinds) .counted), omega (arith, count-in-time P t, evaluated .fits))
 
-  pub recorded-stated : Stated (recorded program trace n label v)
+  pub recorded-stated : Stated (recorded program trace n v)
   unfolding recorded verdictOf
   recorded-stated =
       record {
         program = (evaluated .P, evaluated .accepted);
         few = rw (length-samples trace n) (evaluated .few);
-        label = size;
+        label = tt;
         verdict = verdict-small _;
-        some = counted .0;
+        counted = counted .0;
         fits = counted .1;
       }
 
@@ -130,10 +131,17 @@ module _ (program trace : List ℕ) (n : ℕ) (label : List ℕ) (lent room : �
 
 -- ---- Reading and checking
 
-pub written-reads-back : (before program trace : List ℕ) (n : ℕ) (label : List ℕ) (lent room : ℕ) → AreBytes program → length label ≡ labelBytes
-    → writeCheck program trace n label lent room ≡ check.Passed → ReadsBack before (recorded program trace n label (workedOut program trace n))
-written-reads-back before program trace n label lent room are size e =
-    read-back before (recorded program trace n label (workedOut program trace n)) (recorded-stated program trace n label lent room are size e)
+recorded-format : (program trace : List ℕ) (n : ℕ) (v : Verdict) → formatOf (recorded program trace n v) ≡ format2
+unfolding recorded
+recorded-format program trace n v = refl
+
+pub written-reads-back : (before program trace : List ℕ) (n lent room : ℕ) → AreBytes program
+    → writeCheck program trace n lent room ≡ check.Passed
+    → (r : ReadsBack before (recorded program trace n (workedOut program trace n))) × (r .parts .format ≡ format2 .number)
+written-reads-back before program trace n lent room are e =
+    let v = workedOut program trace n in
+    let r = read-back before (recorded program trace n v) (recorded-stated program trace n lent room are e) in
+    (r, r .format ∙ ap (λ (F : Format). F .number) (recorded-format program trace n v))
 
 -- bytes that hold c, and whose verdict and pass count are the ones worked out
 agreed : (bytes : List ℕ) (lent : ℕ) (c : Contents) (v : Verdict) → readCheck bytes ≡ check.Passed → contentsIn bytes ≡ c
@@ -145,13 +153,13 @@ agreed bytes lent c v r e t w d p =
     (verdictOf (programHeld x) (x .samples))) e
     ∙ rw (r, t, w, eq-eqb (c .verdict) (verdictNumber (v .decision)) d, eq-eqb (c .passes) (v .passes) p)
 
-pub written-agrees : (before program trace : List ℕ) (n : ℕ) (label : List ℕ) (lent room : ℕ) → AreBytes program → length label ≡ labelBytes
-    → writeCheck program trace n label lent room ≡ check.Passed
-    → checking (before ++ recordOf program trace n label) lent ≡ checked.Agrees (workedOut program trace n)
+pub written-agrees : (before program trace : List ℕ) (n : ℕ) (lent room : ℕ) → AreBytes program
+    → writeCheck program trace n lent room ≡ check.Passed
+    → checking (before ++ recordOf program trace n) lent ≡ checked.Agrees (workedOut program trace n)
 unfolding recordOf recorded
-written-agrees before program trace n label lent room are size e =
+written-agrees before program trace n lent room are e =
     let v = workedOut program trace n in
-    let c = recorded program trace n label v in
-    let s = recorded-stated program trace n label lent room are size e in
+    let c = recorded program trace n v in
+    let s = recorded-stated program trace n lent room are e in
     agreed (before ++ layout c) lent c v (layout-passed before c s) (contents-in before c s)
-    (table-fits program trace n label lent room are size e) refl refl refl
+    (table-fits program trace n lent room are e) refl refl refl

@@ -5,21 +5,46 @@ use mathlib.Core.List.{List, _∷_, []}
 use Rattle.refusal.specs.declared.Check.{Check}
 use Rattle.refusal.specs.{_then_, Answer, answered, refusedAs}
 use Rattle.rule.specs.Reading.{programCheck}
+use Rattle.layout.specs.declared.Format.{Format}
+use Rattle.layout.specs.declared.Label.{Label}
+use Rattle.layout.specs.declared.Label.the-variants.{Absent, At}
 use Rattle.layout.specs.declared.Parts.{Parts}
 use Rattle.layout.specs.declared.Reading.{Reading}
 use Rattle.layout.specs.declared.Reading.the-variants as read
-use Rattle.layout.specs.Trailer.{trailerCheck, partsIn, contentsIn, readBy}
+use Rattle.layout.specs.Form.{formats}
+use Rattle.layout.specs.Trailer.{partOf, trailerCheckWith, partsWith, readBy}
+
+-- ---- Of a release that knows these formats
 
 -- 1 to 3, 23, 4, then 5 to 17 of the program
-unfoldable pub readCheck : List ℕ → Check
-readCheck bytes = trailerCheck bytes then programCheck (contentsIn bytes .program)
+unfoldable pub readCheckWith : List Format → List ℕ → Check
+readCheckWith known bytes = trailerCheckWith known bytes then programCheck (partOf bytes (partsWith known bytes .program))
 
 -- what reading answers
-unfoldable pub reading : List ℕ → Reading
-reading bytes = readBy (readCheck bytes) (partsIn bytes)
+unfoldable pub readingWith : List Format → List ℕ → Reading
+readingWith known bytes = readBy (readCheckWith known bytes) (partsWith known bytes)
+
+-- ---- With the formats that are read
+
+abbrev pub readCheck : List ℕ → Check
+readCheck = readCheckWith formats
+
+abbrev pub reading : List ℕ → Reading
+reading = readingWith formats
+
+-- ---- In numbers
+
+-- where a label stands, and its length; 'no label' has 0 for both
+abbrev pub labelStart : Label → ℕ
+labelStart (At s) = s .start
+labelStart Absent = 0
+
+abbrev pub labelLength : Label → ℕ
+labelLength (At s) = s .length
+labelLength Absent = 0
 
 -- the parts in numbers: program start and length, trace start and length, n, label start, verdict, passes, bytes before the
--- record
+-- record, format, label length
 abbrev pub partsValues : Parts → List ℕ
 partsValues p =
     p .program .start
@@ -27,10 +52,12 @@ partsValues p =
     ∷ p .trace .start
     ∷ p .trace .length
     ∷ p .n
-    ∷ p .label .start
+    ∷ labelStart (p .label)
     ∷ p .verdict
     ∷ p .passes
     ∷ p .program .start
+    ∷ p .format
+    ∷ labelLength (p .label)
     ∷ []
 
 -- the answer in numbers

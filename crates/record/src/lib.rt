@@ -1,5 +1,5 @@
-// Records: the program, the trace, the site label, the verdict and the pass count in one string of bytes
-// that is read from its last byte backwards. Every operation answers for all bytes and numbers; a refusal
+// Records: the program, the trace, the verdict and the pass count, and in format 1 a site label, in one string of
+// bytes that is read from its last byte backwards. Every operation answers for all bytes and numbers; a refusal
 // changes nothing that is lent.
 use evaluate::Evaluated;
 use layout::Parts;
@@ -39,23 +39,16 @@ pub struct Examined {
     pub checked: Checked,
 }
 
-// Records a program on a packed trace of n samples, with a site label: works the verdict out over the lent
-// table and writes the record to the front of the output.
-pub fn write(
-    program: &[u8],
-    trace: &[u8],
-    n: usize,
-    label: [u8; 8],
-    table: &mut [u16],
-    out: &mut [u8],
-) -> Written
-    ensures answer { λ r. ⌜ r ≡ writing (now (program .entry)) (now (trace .entry)) n label (length (now (table .entry))) (length (now (out .entry))) ⌝ }
-    ensures numbers { λ r. ⌜ writtenAnswer r ≡ answerIf (writeCheck (now (program .entry)) (now (trace .entry)) n label (length (now (table .entry))) (length (now (out .entry)))) (length (recordOf (now (program .entry)) (now (trace .entry)) n label) ∷ verdictValues (workedOut (now (program .entry)) (now (trace .entry)) n)) ⌝ }
-    ensures output { λ _. ⌜ now (out .exit) ≡ outputWritten (now (program .entry)) (now (trace .entry)) n label (length (now (table .entry))) (now (out .entry)) ⌝ }
-    ensures cells { λ _. ⌜ now (table .exit) ≡ tableWritten (now (program .entry)) (now (trace .entry)) n label (now (table .entry)) (length (now (out .entry))) ⌝ }
-    ensures decides { λ r. ⌜ RecordDemand3 (now (program .entry)) (now (trace .entry)) n label (length (now (table .entry))) (length (now (out .entry))) (λ v. r ≡ Written.Record (length (recordOf (now (program .entry)) (now (trace .entry)) n label)) v) (now (table .exit)) ⌝ }
+// Records a program on a packed trace of n samples: works the verdict out over the lent table and writes the record,
+// of format 2, to the front of the output.
+pub fn write(program: &[u8], trace: &[u8], n: usize, table: &mut [u16], out: &mut [u8]) -> Written
+    ensures answer { λ r. ⌜ r ≡ writing (now (program .entry)) (now (trace .entry)) n (length (now (table .entry))) (length (now (out .entry))) ⌝ }
+    ensures numbers { λ r. ⌜ writtenAnswer r ≡ answerIf (writeCheck (now (program .entry)) (now (trace .entry)) n (length (now (table .entry))) (length (now (out .entry)))) (length (recordOf (now (program .entry)) (now (trace .entry)) n) ∷ verdictValues (workedOut (now (program .entry)) (now (trace .entry)) n)) ⌝ }
+    ensures output { λ _. ⌜ now (out .exit) ≡ outputWritten (now (program .entry)) (now (trace .entry)) n (length (now (table .entry))) (now (out .entry)) ⌝ }
+    ensures cells { λ _. ⌜ now (table .exit) ≡ tableWritten (now (program .entry)) (now (trace .entry)) n (now (table .entry)) (length (now (out .entry))) ⌝ }
+    ensures decides { λ r. ⌜ RecordDemand3 (now (program .entry)) (now (trace .entry)) n (length (now (table .entry))) (length (now (out .entry))) (λ v. r ≡ Written.Record (length (recordOf (now (program .entry)) (now (trace .entry)) n)) v) (now (table .exit)) ⌝ }
 {
-    let size = program.len() + trace::bytes_for(n) + layout::AFTER_TRACE + layout::TRAILER;
+    let size = program.len() + trace::bytes_for(n) + layout::RESULT + layout::TRAILER;
     if out.len() < size {
         return match evaluate::check(program, trace, n, table.len()) {
             Check::Refused(refusal) => Written::Refused(refusal),
@@ -65,7 +58,7 @@ pub fn write(
     match evaluate::evaluate(program, trace, n, table) {
         Evaluated::Refused(refusal) => Written::Refused(refusal),
         Evaluated::Verdict(verdict) => {
-            layout::fill(program, trace, n as u16, label, verdict, out);
+            layout::fill(program, trace, n as u16, verdict, out);
             Written::Record(size, verdict)
         }
     }

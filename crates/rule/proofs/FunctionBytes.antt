@@ -1,6 +1,6 @@
 -- Reading the functions of a program and writing them:
 --   expr-bytes             an expression is at least one byte
---   bytes-drop             some of a list of bytes are bytes
+--   bytes-take, bytes-drop     some of a list of bytes are bytes
 --   raws-read, heads-for   the headers and bodies that functions are written as are found
 --   functions-read         and are read as those functions
 --   functions-inv          functions that are read: their bytes, within the limits and well-kinded
@@ -161,6 +161,12 @@ length-limits size remains e =
 
 raw-sound : (a k size : ℕ) (bs : List ℕ) → kindsFault a k ≡ false → lengthFault size (length bs) ≡ false → Sound (rawAt a k size bs)
 raw-sound a k size bs p q = let w = length-limits size (length bs) q in record { kinds = p; size = length-take-le size bs (w .1); most = w .0 }
+
+pub bytes-take : (n : ℕ) (bs : List ℕ) → AreBytes bs → AreBytes (take n bs)
+bytes-take zero bs are i = omega arith
+bytes-take (suc n) [] are i = omega arith
+bytes-take (suc n) (b ∷ bs) are zero = are 0
+bytes-take (suc n) (b ∷ bs) are (suc i) = bytes-take n bs (λ j. are (suc j)) i
 
 pub bytes-drop : (n : ℕ) (bs : List ℕ) → AreBytes bs → AreBytes (drop n bs)
 bytes-drop n bs are i = rw (getD-drop n bs i 0) (are (n + i))

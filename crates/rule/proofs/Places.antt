@@ -1,9 +1,10 @@
--- Where the bodies of an accepted program stand:
+-- The bytes of an accepted program, and where its bodies stand:
+--   program-bytes          they are at least six bytes
 --   body-at                from a function's start on stand the bytes of its body
 use mathlib.Core.Path.{_≡_, refl}
 use mathlib.Core.List.{List, [], _∷_, _++_, append-assoc}
 use mathlib.Core.Option.{some}
-use Prim.Native.Nat.{ℕ, zero, suc, _+_}
+use Prim.Native.Nat.{ℕ, zero, suc, _+_, _≤_}
 use native.Mathlib.Omega.{arith}
 use lib.ListN.{length, getElem?, getD, drop, length-append}
 use lib.Seq.{drop-append-add}
@@ -11,10 +12,20 @@ use Rattle.encoding.specs.{lowFirst}
 use Rattle.semantics.specs.Language.{Function, Program}
 use Rattle.rule.specs.Form.{encodeExpr, encodeFunction, encodeFunctions, encode, Accepted}
 use Rattle.rule.specs.Outline.{startsFrom}
+use Rattle.rule.proofs.FunctionBytes.{expr-bytes}
 
 length-function : (f : Function) → length (encodeFunction f) ≡ 4 + length (encodeExpr (f .body))
 unfolding encodeFunction lowFirst
 length-function f = omega arith
+
+-- the number of functions, and four header bytes and a body of main
+pub program-bytes : (bytes : List ℕ) (P : Program) → Accepted bytes P → 6 ≤ length bytes
+unfolding encode encodeFunctions
+program-bytes bytes P a = rw (a .encoded) (go P (a .main .1))
+  where
+    go : (P : Program) {f : Function} → getElem? P 0 ≡ some f → 6 ≤ length (encode P)
+    go [] e = let z : _≡_ {A = ℕ} 0 1 = cc in absurd (omega arith)
+    go (f ∷ P) e = omega (arith, length-append (encodeFunction f) (encodeFunctions P), length-function f, expr-bytes (f .body))
 
 -- the first body, its header standing after other bytes
 first-body : (pre : List ℕ) (f : Function) (P : Program)

@@ -1,9 +1,10 @@
-//! The limit of 16,777,216 cells, and numbers of cells that 32 bits do not hold.
+//! The limit of 16,777,216 cells, and numbers of cells that 32 bits do not hold; the smallest record, and the
+//! longest listing.
 
 use super::super::generate::traces::{garbage, packed, Trace};
-use super::super::oracle::record::Content;
+use super::super::oracle::record::{written_length, Content};
 use super::super::oracle::{program, search, MOST_CELLS};
-use super::{evaluation, record, Bench, Compared};
+use super::{evaluation, listing, record, Bench, Compared};
 
 /// A table longer than the limit.
 const LONG: usize = 17_000_000;
@@ -21,11 +22,19 @@ const FULL: [(u8, u8); 8] = [
     (0, 0x00),
 ];
 const FULL_SAMPLES: usize = 62;
+/// The shortest program: main gives True.
+const SHORTEST: [u8; 6] = [1, 1, 1, 1, 0, 1];
+/// The longest archive that is listed.
+const LONGEST_ARCHIVE: usize = 32_768;
 
 /// All of them, in the first round.
 pub fn run(bench: &mut Bench) -> Compared {
     if bench.round > 0 {
         return Ok(());
+    }
+    smallest(bench)?;
+    if let Some(path) = bench.listing {
+        longest_listing(bench, path)?;
     }
     few_cells(bench)?;
     long_table(bench)?;
@@ -33,6 +42,45 @@ pub fn run(bench: &mut Bench) -> Compared {
         true => Ok(()),
         false => full_table(bench),
     }
+}
+
+/// A record of the shortest program on so many samples.
+fn short(samples: usize, verdict: u8) -> Vec<u8> {
+    let content = Content {
+        program: SHORTEST.to_vec(),
+        trace: trace(samples).bytes,
+        n: samples as u16,
+        label: None,
+        verdict,
+        passes: 2,
+    };
+    content.bytes()
+}
+
+/// The smallest record, and its bytes without the first.
+fn smallest(bench: &mut Bench) -> Compared {
+    let record = short(0, 2);
+    assert_eq!(record.len(), 19);
+    for bytes in [&record[..], &record[1..]] {
+        record::compare_read(bench, bytes)?;
+        record::compare_check(bench, bytes, vec![9; 2])?;
+    }
+    Ok(())
+}
+
+/// As many records as an archive can have, first with their own verdict, then with the longest words. The bytes
+/// that the smallest leave lengthen some by two, a trace of ten samples, and so n by a digit.
+fn longest_listing(bench: &mut Bench, path: &str) -> Compared {
+    for verdict in [2, 0] {
+        let smallest = short(0, verdict);
+        let records = LONGEST_ARCHIVE / smallest.len();
+        let longer = LONGEST_ARCHIVE % smallest.len() / 2;
+        let mut archive = short(10, verdict).repeat(longer);
+        archive.extend(smallest.repeat(records - longer));
+        assert_eq!(archive.len(), LONGEST_ARCHIVE);
+        listing::compare(bench, path, &archive)?;
+    }
+    Ok(())
 }
 
 /// Main, and functions of the given kinds that all give True.
@@ -90,22 +138,22 @@ fn full_table(bench: &mut Bench) -> Compared {
 fn three(bench: &mut Bench, program: &[u8], n: usize, cells: usize) -> Compared {
     let table = garbage(&mut bench.random, cells);
     evaluation::compare(bench, program, &trace(n), table.clone())?;
-    let content = Content {
-        program: program.to_vec(),
-        trace: trace(n).bytes,
-        n: n as u16,
-        label: [1; 8],
-        verdict: 1,
-        passes: 2,
-    };
-    let bytes = content.bytes();
+    for label in [None, Some([1; 8])] {
+        let content = Content {
+            program: program.to_vec(),
+            trace: trace(n).bytes,
+            n: n as u16,
+            label,
+            verdict: 1,
+            passes: 2,
+        };
+        record::compare_check(bench, &content.bytes(), table.clone())?;
+    }
     let order = record::Order {
         program: program.to_vec(),
         trace: trace(n),
-        label: content.label,
-        table: table.clone(),
-        out: vec![9; bytes.len()],
+        out: vec![9; written_length(program, &trace(n).bytes)],
+        table,
     };
-    record::compare_write(bench, order)?;
-    record::compare_check(bench, &bytes, table)
+    record::compare_write(bench, order)
 }

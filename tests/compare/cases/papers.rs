@@ -2,7 +2,7 @@
 
 use super::super::generate::rings::Ring;
 use super::super::generate::traces::Trace;
-use super::super::oracle;
+use super::super::oracle::{self, record::OLD_RELEASE};
 use super::{evaluation, listing, program, record, ring, Bench, Compared};
 
 /// A program tried: bytes, trace, n, verdict, passes.
@@ -27,11 +27,17 @@ const ROWS: [Row; 6] = [
     (F, &[], 0, 0, 2),
 ];
 
+/// The archive that is listed: A on 101, in format 1.
 const ARCHIVE: &[u8] = &[
     1, 1, 1, 2, 0, 0x22, 0x10, 5, 0, 0, 0, 0, 0, 0, 0, 0, 1, 2, 0, 0, 0, 0x15, 0, 0x0E, 0, 3, 0, 1,
     0x52,
 ];
 const LISTING: &str = "1 29 3 no agrees\nend 1\n";
+
+/// A on 101, in format 2.
+const RECORDED: &[u8] = &[
+    1, 1, 1, 2, 0, 0x22, 0x10, 5, 1, 2, 0, 0, 0, 0x0D, 0, 6, 0, 3, 0, 2, 0x52,
+];
 
 /// All of them, in the first round.
 pub fn run(bench: &mut Bench) -> Compared {
@@ -46,6 +52,9 @@ pub fn run(bench: &mut Bench) -> Compared {
     cells(bench)?;
     rings(bench)?;
     padding_set(bench)?;
+    recorded(bench)?;
+    labels(bench)?;
+    formats(bench)?;
     archives(bench)
 }
 
@@ -102,21 +111,31 @@ fn padding_set(bench: &mut Bench) -> Compared {
         let answer = oracle::evaluate(A, &trace.bytes, 3, &mut [9; 4]);
         stated(answer.map(|_| ()), Err(23))?;
         evaluation::compare(bench, A, &trace, vec![9; 4])?;
-        let mut archive = ARCHIVE.to_vec();
-        archive[A.len()] |= 1 << bit;
-        stated(oracle::record::read(&archive).map(|_| ()), Err(23))?;
-        record::compare_read(bench, &archive)?;
-        record::compare_check(bench, &archive, vec![9; 5])?;
-        let order = record::Order {
-            program: A.to_vec(),
-            trace,
-            label: [0; 8],
-            table: vec![9; 5],
-            out: vec![9; ARCHIVE.len()],
-        };
-        record::compare_write(bench, order)?;
+        for record in [ARCHIVE, RECORDED] {
+            changed(bench, record, A.len(), 5 | 1 << bit, 23)?;
+        }
+        record::compare_write(bench, order(trace))?;
     }
     Ok(())
+}
+
+/// A record with one byte changed, and the number it is refused by.
+fn changed(bench: &mut Bench, record: &[u8], at: usize, byte: u8, number: u32) -> Compared {
+    let mut bytes = record.to_vec();
+    bytes[at] = byte;
+    stated(oracle::record::read(&bytes).map(|_| ()), Err(number))?;
+    record::compare_read(bench, &bytes)?;
+    record::compare_check(bench, &bytes, vec![9; 5])
+}
+
+/// An order of a record of A, with as much room as it takes on 101.
+fn order(trace: Trace) -> record::Order {
+    record::Order {
+        program: A.to_vec(),
+        trace,
+        table: vec![9; 5],
+        out: vec![9; RECORDED.len()],
+    }
 }
 
 /// Ring lengths at the limits.
@@ -136,27 +155,76 @@ fn rings(bench: &mut Bench) -> Compared {
     Ok(())
 }
 
-/// The archive that is listed.
-fn archives(bench: &mut Bench) -> Compared {
-    stated(&*oracle::listing::text(ARCHIVE), LISTING)?;
-    record::compare_read(bench, ARCHIVE)?;
-    record::compare_check(bench, ARCHIVE, vec![9; 5])?;
-    let order = record::Order {
-        program: A.to_vec(),
-        trace: Trace {
-            bytes: vec![5],
-            n: 3,
-        },
-        label: [0; 8],
-        table: vec![9; 5],
-        out: vec![9; ARCHIVE.len()],
+/// A on 101 is recorded in format 2, which a release without request 02 refuses by 2.
+fn recorded(bench: &mut Bench) -> Compared {
+    let mut out = [0; RECORDED.len()];
+    let written = oracle::record::write(A, &[5], 3, &mut [0; 4], &mut out);
+    stated(written.map(|(length, _)| length), Ok(RECORDED.len()))?;
+    stated(&out[..], RECORDED)?;
+    let before = oracle::record::read_formats(OLD_RELEASE, RECORDED);
+    stated(before.map(|_| ()), Err(2))?;
+    let trace = Trace {
+        bytes: vec![5],
+        n: 3,
     };
-    record::compare_write(bench, order)?;
+    record::compare_write(bench, order(trace))
+}
+
+/// The parts of both records: a label of zeros, and none.
+fn labels(bench: &mut Bench) -> Compared {
+    let labelled = [0, 7, 7, 1, 3, 8, 1, 2, 0, 1, 8];
+    let unlabelled = [0, 7, 7, 1, 3, 0, 1, 2, 0, 2, 0];
+    for (record, parts) in [(ARCHIVE, labelled), (RECORDED, unlabelled)] {
+        let read = oracle::record::read(record);
+        stated(read.map(|it| it.numbers()), Ok(parts))?;
+        record::compare_read(bench, record)?;
+        record::compare_check(bench, record, vec![9; 5])?;
+    }
+    Ok(())
+}
+
+/// Each record with a format byte that is not its own.
+fn formats(bench: &mut Bench) -> Compared {
+    for (record, other) in [(ARCHIVE, 2), (RECORDED, 1)] {
+        let at = record.len() - 2;
+        changed(bench, record, at, other, 3)?;
+        changed(bench, record, at, 0, 2)?;
+        changed(bench, record, at, 3, 2)?;
+    }
+    Ok(())
+}
+
+/// The archive that is listed, the same contents in format 2, both end to end, and no record.
+fn archives(bench: &mut Bench) -> Compared {
+    let archives = [
+        (ARCHIVE.to_vec(), LISTING),
+        (RECORDED.to_vec(), "1 21 3 no agrees\nend 1\n"),
+        (
+            [ARCHIVE, RECORDED].concat(),
+            "1 21 3 no agrees\n2 29 3 no agrees\nend 2\n",
+        ),
+        (
+            [RECORDED, ARCHIVE].concat(),
+            "1 29 3 no agrees\n2 21 3 no agrees\nend 2\n",
+        ),
+        (Vec::new(), "end 0\n"),
+    ];
+    for (archive, text) in archives {
+        listed(bench, &archive, text)?;
+    }
+    Ok(())
+}
+
+/// An archive that is walked and listed.
+fn listed(bench: &mut Bench, archive: &[u8], text: &str) -> Compared {
+    stated(&*oracle::listing::text(archive), text)?;
+    let mut rest = archive;
+    while let Some(before) = record::compare_read(bench, rest)? {
+        record::compare_check(bench, rest, vec![9; 5])?;
+        rest = &rest[..before];
+    }
     match bench.listing {
-        Some(path) => {
-            listing::compare(bench, path, ARCHIVE)?;
-            listing::compare(bench, path, &[])
-        }
+        Some(path) => listing::compare(bench, path, archive),
         None => Ok(()),
     }
 }

@@ -10,7 +10,6 @@ use super::{cells_hex, hex, number, Bench, Compared, Findings};
 pub struct Order {
     pub program: Vec<u8>,
     pub trace: Trace,
-    pub label: [u8; 8],
     pub table: Vec<u16>,
     pub out: Vec<u8>,
 }
@@ -25,7 +24,7 @@ pub fn run_write(bench: &mut Bench) -> Compared {
         traces::damage(random, &mut trace);
     }
     let table = traces::table(random, &program, trace.n);
-    let needed = program.len() + trace.bytes.len() + 21;
+    let needed = oracle::record::written_length(&program, &trace.bytes);
     let room = match random.below(10) {
         0 => needed - 1,
         1 => random.between(0, needed),
@@ -35,7 +34,6 @@ pub fn run_write(bench: &mut Bench) -> Compared {
     let order = Order {
         program,
         trace,
-        label: records::label(random),
         table,
         out: random.bytes(room),
     };
@@ -52,12 +50,10 @@ pub fn compare_write(bench: &mut Bench, mut order: Order) -> Compared {
     let want = expect_write(bench, &mut order, &mut answer);
     let program = bench.lend(&order.program);
     let trace = bench.lend(&order.trace.bytes);
-    let label = bench.lend(&order.label);
     let have = ffi::write_record(
         &program,
         &trace,
         order.trace.n,
-        &label,
         &mut table,
         &mut out,
         &mut lent_answer,
@@ -66,7 +62,6 @@ pub fn compare_write(bench: &mut Bench, mut order: Order) -> Compared {
     found.number(want, have);
     found.lent("program", &program, &order.program);
     found.lent("trace", &trace, &order.trace.bytes);
-    found.lent("label", &label, &order.label);
     found.lent("table", &table, &order.table);
     found.lent("output", &out, &order.out);
     found.lent("answer", &lent_answer, &answer);
@@ -79,7 +74,6 @@ fn expect_write(bench: &mut Bench, order: &mut Order, answer: &mut [u64]) -> u32
         &order.program,
         &order.trace.bytes,
         order.trace.n,
-        order.label,
         &mut order.table,
         &mut order.out,
     );
@@ -95,10 +89,7 @@ fn expect_write(bench: &mut Bench, order: &mut Order, answer: &mut [u64]) -> u32
 fn order_story(order: &Order, table: &[u16]) -> String {
     let case = story(&order.program, &order.trace, table);
     let room = order.out.len();
-    format!(
-        "{case}\nlabel {}\noutput of {room} bytes",
-        hex(&order.label)
-    )
+    format!("{case}\noutput of {room} bytes")
 }
 
 /// An archive read from its end, record by record until one is refused.
@@ -113,12 +104,13 @@ pub fn run_read(bench: &mut Bench) -> Compared {
 
 /// Compares the reading of the last record; gives the bytes before it.
 pub fn compare_read(bench: &mut Bench, bytes: &[u8]) -> Result<Option<usize>, String> {
-    let mut parts = bench.random.words(9);
+    let mut parts = bench.random.words(11);
     let mut lent_parts = bench.lend(&parts);
     let read = oracle::record::read(bytes);
     let want = number(&read);
     if let Ok(read) = &read {
         parts.copy_from_slice(&read.numbers());
+        bench.report.read(read.label_in(bytes));
     }
     let lent = bench.lend(bytes);
     let have = ffi::read_record(&lent, &mut lent_parts);

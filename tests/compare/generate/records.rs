@@ -1,4 +1,4 @@
-//! Records and archives, sound and damaged.
+//! Records and archives of both formats, sound and damaged.
 
 use super::super::oracle::record::Content;
 use super::super::oracle::{program, search, trace};
@@ -27,11 +27,17 @@ pub fn content(random: &mut Random, damaged_in: usize) -> Content {
     }
 }
 
-/// A site label, sometimes unset.
-pub fn label(random: &mut Random) -> [u8; 8] {
-    match random.one_in(3) {
-        true => [0; 8],
-        false => random.word().to_le_bytes(),
+/// A sound record's content.
+fn sound(random: &mut Random) -> Content {
+    content(random, 1_000_000)
+}
+
+/// A site label, sometimes of zeros, or none.
+fn label(random: &mut Random) -> Option<[u8; 8]> {
+    match random.below(6) {
+        0 => Some([0; 8]),
+        1 | 2 => Some(random.word().to_le_bytes()),
+        _ => None,
     }
 }
 
@@ -63,6 +69,22 @@ pub fn archive(random: &mut Random) -> Vec<u8> {
     }
     for _ in 0..random.pick(&[1, 1, 2, 3, 5]) {
         archive.extend(piece(random));
+    }
+    if random.one_in(6) {
+        archive.extend(both_formats(random));
+    }
+    archive
+}
+
+/// Sound records end to end that differ only by their label or its absence.
+fn both_formats(random: &mut Random) -> Vec<u8> {
+    let mut content = sound(random);
+    let mut labels = [Some([0; 8]), Some(random.word().to_le_bytes()), None];
+    random.shuffle(&mut labels);
+    let mut archive = Vec::new();
+    for label in labels {
+        content.label = label;
+        archive.extend(content.bytes());
     }
     archive
 }
@@ -108,28 +130,55 @@ fn long_trace(random: &mut Random, content: &mut Content) {
 /// One field of the trailer, the verdict or the pass count changed.
 fn damage_trailer(random: &mut Random, bytes: &mut [u8]) {
     let trailer = bytes.len() - 8;
-    match random.below(8) {
+    match random.below(9) {
         0 => bytes[trailer + 7] = random.byte(),
-        1 => bytes[trailer + 6] = random.pick(&[0, 2, 3, 0x52, 255]),
+        1 => bytes[trailer + 6] = random.pick(&[0, 1, 2, 3, 0x52, 255]),
         2 | 3 => shift(random, bytes, trailer),
         4 => shift(random, bytes, trailer + 2),
         5 => shift(random, bytes, trailer + 4),
         6 => same_distances(bytes, trailer),
+        7 => other_format(random, bytes, trailer),
         _ => bytes[trailer - 1 - random.below(5)] = random.byte(),
     }
 }
 
 /// Changes the 16 bits at a place, mostly by little.
 fn shift(random: &mut Random, bytes: &mut [u8], at: usize) {
-    let number = u16::from_le_bytes([bytes[at], bytes[at + 1]]);
-    let changed = match random.below(6) {
+    let number = short(bytes, at);
+    let changed = match random.below(7) {
         0 => random.word() as u16,
-        1 => random.pick(&[0, 12, 13, 4_095, 4_096, 65_535]),
+        1 => random.pick(&[0, 4, 5, 6, 12, 13, 14, 4_095, 4_096, 65_535]),
         2 => number.wrapping_sub(1),
         3 => number.wrapping_add(8),
+        4 => number.wrapping_sub(8),
         _ => number.wrapping_add(1),
     };
-    bytes[at..at + 2].copy_from_slice(&changed.to_le_bytes());
+    put_short(bytes, at, changed);
+}
+
+/// Some or all of what the other format's trailer has: the format byte, the first distance, the second.
+fn other_format(random: &mut Random, bytes: &mut [u8], trailer: usize) {
+    let (format, change) = match bytes[trailer + 6] {
+        1 => (2, 8u16.wrapping_neg()),
+        _ => (1, 8),
+    };
+    if random.one_in(2) {
+        bytes[trailer + 6] = format;
+    }
+    for at in [trailer, trailer + 2] {
+        if random.one_in(2) {
+            put_short(bytes, at, short(bytes, at).wrapping_add(change));
+        }
+    }
+}
+
+/// The 16 bits at a place, low byte first.
+fn short(bytes: &[u8], at: usize) -> u16 {
+    u16::from_le_bytes([bytes[at], bytes[at + 1]])
+}
+
+fn put_short(bytes: &mut [u8], at: usize, number: u16) {
+    bytes[at..at + 2].copy_from_slice(&number.to_le_bytes());
 }
 
 /// Makes the first distance the second.
@@ -161,19 +210,20 @@ fn flip(random: &mut Random, bytes: &mut [u8]) {
 pub fn of_length(random: &mut Random, length: usize) -> Vec<u8> {
     let mut archive = Vec::new();
     while length - archive.len() > 3_000 {
-        let bytes = content(random, 1_000_000).bytes();
+        let bytes = sound(random).bytes();
         if archive.len() + bytes.len() + 100 <= length {
             archive.extend(bytes);
         }
     }
-    let last = Content {
-        program: programs::of_size(length - archive.len() - 21),
+    let mut last = Content {
+        program: Vec::new(),
         trace: Vec::new(),
         n: 0,
-        label: [0; 8],
+        label: label(random),
         verdict: 1,
         passes: 2,
     };
+    last.program = programs::of_size(length - archive.len() - last.bytes().len());
     archive.extend(last.bytes());
     archive
 }

@@ -5,9 +5,6 @@ use super::super::oracle::{self, listing, program, record, ring};
 use super::fields::{Fields, Memory};
 use super::print;
 
-/// The bytes of a label.
-const LABEL: usize = 8;
-
 /// Runs an operation; nothing if there is none of that name or its fields cannot be read.
 pub fn run(operation: &str, mut fields: Fields) -> Option<String> {
     match operation {
@@ -126,8 +123,6 @@ fn pass(fields: &mut Fields) -> Option<String> {
 fn write(fields: &mut Fields) -> Option<String> {
     let (program, trace) = (fields.bytes()?, fields.bytes()?);
     let n = fields.number()?;
-    let mut label = fields.bytes()?.lent().to_vec();
-    label.resize(LABEL, 0);
     let mut table = fields.cells()?;
     let mut out = fields.written()?;
     fields.end()?;
@@ -135,7 +130,6 @@ fn write(fields: &mut Fields) -> Option<String> {
         program.lent(),
         trace.lent(),
         n,
-        label.try_into().ok()?,
         table.lent_mut(),
         out.lent_mut(),
     );
@@ -145,12 +139,16 @@ fn write(fields: &mut Fields) -> Option<String> {
     Some(words + &cells(&table) + &bytes(&out))
 }
 
-/// The parts of a record: start and length of each that is in the bytes, and the numbers.
+/// The parts of a record: the format, start and length of each that is in the bytes, and the numbers.
 fn parts(parts: record::Parts) -> String {
     let (program, trace) = (parts.program, parts.trace);
+    let label = match parts.label {
+        Some((start, length)) => format!("label {start} {length}"),
+        None => "no label".to_string(),
+    };
     format!(
-        " program {} {} trace {} {} n {} label {} {LABEL} verdict {} passes {}",
-        program.0, program.1, trace.0, trace.1, parts.n, parts.label, parts.verdict, parts.passes
+        " format {} program {} {} trace {} {} n {} {label} verdict {} passes {}",
+        parts.format, program.0, program.1, trace.0, trace.1, parts.n, parts.verdict, parts.passes
     )
 }
 

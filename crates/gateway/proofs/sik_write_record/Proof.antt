@@ -22,7 +22,7 @@ same-length-2 c = search needs
 returns : tie.Need-returns
 unfolding valuesLeft
 returns c =
-    let old = now (c .before .before .before .before .before .before .before .before .before .before .before .before .before .before .args .answer) in
+    let old = now (c .before .before .before .before .before .before .before .before .before .before .before .before .before .args .answer) in
     let told = c .before .before .before .before .before .before .write .ensures in
     let w = c .written-with .ensures in
     let all = told-as writtenAnswer old (w .0) (w .1) (told .0) in (

@@ -12,7 +12,7 @@ use Rattle.semantics.specs.Verdicts.{verdictNumber}
 use Rattle.encoding.specs.{lowFirst}
 use Rattle.encoding.proofs.Putting.{Left, left-put, left-end, left-front}
 use Rattle.rule.specs.Form.{AreBytes}
-use Rattle.layout.specs.Form.{Contents, mostVerdict, afterTrace, trailerBytes, trailer, layout}
+use Rattle.layout.specs.Form.{format2, Contents, mostVerdict, resultBytes, trailerBytes, trailer, layoutIn, layout}
 use Rattle.layout.specs.Filling.{recorded, isPacking}
 use Rattle.layout.proofs.Filling.{packing-size, packing-same, trailer-is, size-is, no-packing, no-verdict, no-space, put-whole}
 use Rattle.layout.proofs.fill.Statement.{statement}
@@ -20,13 +20,10 @@ use Rattle.layout.proofs.fill.Tie as tie
 
 -- what is recorded, and its layout from each part on
 abbrev contents : tie.Start → Contents
-contents s = recorded (s .args .program .now) (s .args .trace .now) (s .args .n) (s .args .t4) (s .args .verdict)
+contents s = recorded (s .args .program .now) (s .args .trace .now) (s .args .n) (s .args .verdict)
 
 abbrev from-verdict : tie.Start → List ℕ
-from-verdict s = (verdictNumber (s .args .verdict .decision) ∷ lowFirst 4 (s .args .verdict .passes)) ++ trailer (contents s)
-
-abbrev from-label : tie.Start → List ℕ
-from-label s = s .args .t4 ++ from-verdict s
+from-verdict s = (verdictNumber (s .args .verdict .decision) ∷ lowFirst 4 (s .args .verdict .passes)) ++ trailer format2 (contents s)
 
 abbrev packed : tie.Start → List ℕ
 packed s = pack (samples (s .args .trace .now) (s .args .n))
@@ -57,15 +54,12 @@ are-bytes c i = omega (arith, c .before .before .before .shared-slice-known2 .gi
 same : (c : tie.Else1) → start-packing c .args .trace .now ≡ packed (start-packing c)
 same c = let a = start-packing c .args in packing-same (a .trace .now) (a .n) (packing c) (are-bytes c)
 
-label-size : (s : tie.Start) → length (s .args .t4) ≡ 8
-label-size s = search needs
-
 -- the sum is the record's length
 sized : (c : tie.Else1) → let a = start-packing c .args in
-    length (a .program .now) + (length (a .trace .now) + afterTrace) + trailerBytes ≡ length (layout (contents (start-packing c)))
+    length (a .program .now) + (length (a .trace .now) + resultBytes) + trailerBytes ≡ length (layout (contents (start-packing c)))
 sized c =
     let s = start-packing c in
-    let e = size-is (s .args .program .now) (s .args .trace .now) (s .args .n) (s .args .t4) (s .args .verdict) (size c) (label-size s) in
+    let e = size-is (s .args .program .now) (s .args .trace .now) (s .args .n) (s .args .verdict) (size c) in
     omega (arith, e)
 
 abbrev packing-number : tie.After-verdict-number → tie.Else1
@@ -93,46 +87,40 @@ room c = omega (arith, sized (packing-room c), c .if3 .left)
 abbrev Rest : tie.Start → List ℕ → ℕ → List ℕ → Type 0
 Rest s = Left (s .args .out .now) 0 (layout (contents s))
 
-at-start : (c : tie.Else3) → let s = start c in Rest s (s .args .out .now) 0 (s .args .program .now ++ (packed s ++ from-label s))
-unfolding layout recorded
+at-start : (c : tie.Else3) → let s = start c in Rest s (s .args .out .now) 0 (s .args .program .now ++ (packed s ++ from-verdict s))
+unfolding layoutIn recorded
 at-start c = left-front (start c .args .out .now) (layout (contents (start c))) (room c)
 
 abbrev tests-trace : tie.After-put → tie.Else3
 tests-trace c = c .before .before
 
-at-trace : (c : tie.After-put) → let s = start (tests-trace c) in Rest s (c .put .last .0) (c .put .result) (packed s ++ from-label s)
+at-trace : (c : tie.After-put) → let s = start (tests-trace c) in Rest s (c .put .last .0) (c .put .result) (packed s ++ from-verdict s)
 at-trace c = left-put (start (tests-trace c) .args .program .now) (at-start (tests-trace c)) (c .put .ensures)
 
-abbrev tests-label : tie.After-put2 → tie.Else3
-tests-label c = tests-trace (c .before .before .before .before)
+abbrev tests-verdict : tie.After-put2 → tie.Else3
+tests-verdict c = tests-trace (c .before .before .before .before)
 
-at-label : (c : tie.After-put2) → let s = start (tests-label c) in Rest s (c .put2 .last .0) (c .put2 .result) (from-label s)
-at-label c =
-    left-put (packed (start (tests-label c))) (at-trace (c .before .before .before .before))
-    (rw (same (packing-room (tests-label c))) at (c .put2 .ensures))
+at-verdict : (c : tie.After-put2) → let s = start (tests-verdict c) in Rest s (c .put2 .last .0) (c .put2 .result) (from-verdict s)
+at-verdict c =
+    left-put (packed (start (tests-verdict c))) (at-trace (c .before .before .before .before))
+    (rw (same (packing-room (tests-verdict c))) at (c .put2 .ensures))
 
-abbrev tests-verdict : tie.After-put3 → tie.Else3
-tests-verdict c = tests-label (c .before .before .before .before .before)
-
-at-verdict : (c : tie.After-put3) → let s = start (tests-verdict c) in Rest s (c .put3 .last .0) (c .put3 .result) (from-verdict s)
-at-verdict c = left-put (start (tests-verdict c) .args .t4) (at-label (c .before .before .before .before .before)) (c .put3 .ensures)
-
-abbrev tests-trailer : tie.After-put4 → tie.Else3
+abbrev tests-trailer : tie.After-put3 → tie.Else3
 tests-trailer c = tests-verdict (c .before .before .before .before .before .before)
 
-at-trailer : (c : tie.After-put4) → let s = start (tests-trailer c) in Rest s (c .put4 .last .0) (c .put4 .result) (trailer (contents s))
+at-trailer : (c : tie.After-put3) → let s = start (tests-trailer c) in Rest s (c .put3 .last .0) (c .put3 .result) (trailer format2 (contents s))
 at-trailer c =
     let s = start (tests-trailer c) in
     let number = tests-trailer c .before .before .verdict-number .ensures in
     left-put (verdictNumber (s .args .verdict .decision) ∷ lowFirst 4 (s .args .verdict .passes))
     (at-verdict (c .before .before .before .before .before .before))
-    (rw (c .before .before .verdict-bytes .ensures, number) at (c .put4 .ensures))
+    (rw (c .before .before .verdict-bytes .ensures, number) at (c .put3 .ensures))
 
 is-packing-requires : tie.Need-is-packing-requires
 is-packing-requires c κs = search needs
 
 returns : tie.Need-returns
-returns c = no-packing _ _ _ _ _ _ (sym (c .before .is-packing .ensures) ∙ not-true _ (c .if1 .taken))
+returns c = no-packing _ _ _ _ _ (sym (c .before .is-packing .ensures) ∙ not-true _ (c .if1 .taken))
 
 verdict-number-requires : tie.Need-verdict-number-requires
 verdict-number-requires c κs = search needs
@@ -141,7 +129,7 @@ cast-if2 : tie.Need-cast-if2
 cast-if2 c = search needs
 
 returns-2 : tie.Need-returns-2
-returns-2 c = no-verdict _ _ _ _ _ _ (packing (packing-number (c .before))) (rw (← told (c .before)) (c .if2 .taken))
+returns-2 c = no-verdict _ _ _ _ _ (packing (packing-number (c .before))) (rw (← told (c .before)) (c .if2 .taken))
 
 add-second : tie.Need-add-second
 add-second c = search needs
@@ -155,7 +143,7 @@ add-if3 c = record { fits = omega (arith, few (packing-number (c .before)), star
 returns-3 : tie.Need-returns-3
 returns-3 c =
     let p = packing-number (c .before .before) in
-    no-space _ _ _ _ _ _ (packing p) (small (c .before)) (rw (← sized p) (c .if3 .taken))
+    no-space _ _ _ _ _ (packing p) (small (c .before)) (rw (← sized p) (c .if3 .taken))
 
 put-requires : tie.Need-put-requires
 put-requires c κs = search needs
@@ -163,32 +151,26 @@ put-requires c κs = search needs
 put-requires-2 : tie.Need-put-requires-2
 put-requires-2 c κs = search needs
 
-slice-aggregate-put : tie.Need-slice-aggregate-put
-slice-aggregate-put c = search needs
-
-put-requires-3 : tie.Need-put-requires-3
-put-requires-3 c κs = search needs
-
 cast-verdict-bytes : tie.Need-cast-verdict-bytes
 cast-verdict-bytes c = search needs
 
 verdict-bytes-requires : tie.Need-verdict-bytes-requires
 verdict-bytes-requires c κs = search needs
 
+slice-aggregate-put : tie.Need-slice-aggregate-put
+slice-aggregate-put c = search needs
+
+put-requires-3 : tie.Need-put-requires-3
+put-requires-3 c κs = search needs
+
+trailer-bytes-requires : tie.Need-trailer-bytes-requires
+trailer-bytes-requires c κs = search needs
+
 slice-aggregate-put-2 : tie.Need-slice-aggregate-put-2
 slice-aggregate-put-2 c = search needs
 
 put-requires-4 : tie.Need-put-requires-4
 put-requires-4 c κs = search needs
-
-trailer-bytes-requires : tie.Need-trailer-bytes-requires
-trailer-bytes-requires c κs = search needs
-
-slice-aggregate-put-3 : tie.Need-slice-aggregate-put-3
-slice-aggregate-put-3 c = search needs
-
-put-requires-5 : tie.Need-put-requires-5
-put-requires-5 c κs = search needs
 
 same-length : tie.Need-same-length
 same-length c = search needs
@@ -201,8 +183,8 @@ returns-4 c =
     let p = packing-room tests in
     let s = start tests in
     let text = last .before .before .trailer-bytes .ensures
-    ∙ trailer-is (s .args .program .now) (s .args .trace .now) (s .args .n) (s .args .t4) (s .args .verdict) (size p) in
-    put-whole _ _ _ _ _ (s .args .out .now) (packing p) (small (tests .before)) (left-end (at-trailer placed) (rw text at (last .put5 .ensures)) .1)
+    ∙ trailer-is (s .args .program .now) (s .args .trace .now) (s .args .n) (s .args .verdict) (size p) in
+    put-whole _ _ _ _ (s .args .out .now) (packing p) (small (tests .before)) (left-end (at-trailer placed) (rw text at (last .put4 .ensures)) .1)
 
 pub fill-spec : {M : Type 1} → statement M
 fill-spec =
@@ -219,14 +201,12 @@ fill-spec =
     returns-3
     put-requires
     put-requires-2
-    slice-aggregate-put
-    put-requires-3
     cast-verdict-bytes
     verdict-bytes-requires
+    slice-aggregate-put
+    put-requires-3
+    trailer-bytes-requires
     slice-aggregate-put-2
     put-requires-4
-    trailer-bytes-requires
-    slice-aggregate-put-3
-    put-requires-5
     same-length
     returns-4)

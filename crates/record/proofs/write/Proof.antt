@@ -8,6 +8,7 @@ use Rattle.trace.specs.{mostSamples, bytesFor}
 use Rattle.trace.proofs.Packing.{length-samples}
 use Rattle.rule.specs.Form.{AreBytes}
 use Rattle.prepare.specs.Checks.{evaluateCheck}
+use Rattle.layout.specs.Form.{resultBytes, trailerBytes}
 use Rattle.layout.specs.Filling.{recorded}
 use Rattle.layout.proofs.Filling.{size-is}
 use Rattle.record.specs.Recording.{workedOut, recordOf, writeCheck}
@@ -17,9 +18,6 @@ use borrow.Author.Needs.{needs}
 use Rattle.record.proofs.write.Statement.{statement}
 use Rattle.record.proofs.write.Tie as tie
 
-label-size : (s : tie.Start) → length (s .args .label) ≡ 8
-label-size s = search needs
-
 -- n / 8 rounded up, for any n of 64 bits
 few : (c : tie.After-bytes-for) → c .bytes-for .result ≤ 2305843009213693952
 unfolding bytesFor
@@ -27,12 +25,12 @@ few c = omega (arith, c .bytes-for .ensures, c .before .before .before .before .
 
 -- the sum is the record's length
 sized : (c : tie.After-bytes-for) → let a = c .before .before .before .before .before .args in
-    length (a .program .now) + c .bytes-for .result + 13 + 8 ≡ length (recordOf (a .program .now) (a .trace .now) (a .n) (a .label))
+    length (a .program .now) + c .bytes-for .result + resultBytes + trailerBytes ≡ length (recordOf (a .program .now) (a .trace .now) (a .n))
 unfolding recordOf
 sized c =
     let s = c .before .before .before .before .before in
-    size-is (s .args .program .now) (s .args .trace .now) (s .args .n) (s .args .label)
-    (workedOut (s .args .program .now) (s .args .trace .now) (s .args .n)) (c .bytes-for .ensures) (label-size s)
+    size-is (s .args .program .now) (s .args .trace .now) (s .args .n)
+    (workedOut (s .args .program .now) (s .args .trace .now) (s .args .n)) (c .bytes-for .ensures)
 
 -- where evaluating gave a verdict: the start of the function, the check, the verdict, and what the record needs
 abbrev start : tie.After-verdict → tie.Start
@@ -47,14 +45,14 @@ worked w =
     (w .before .before .before .before .evaluate .ensures .0) (w .verdict .given .1)
 
 passes : (w : tie.After-verdict) → let a = start w .args in
-    writeCheck (a .program .now) (a .trace .now) (a .n) (a .label) (length (a .table .now)) (length (a .out .now)) ≡ Passed
+    writeCheck (a .program .now) (a .trace .now) (a .n) (length (a .table .now)) (length (a .out .now)) ≡ Passed
 passes w =
     let a = start w .args in
-    room-enough (a .program .now) (a .trace .now) (a .n) (a .label) (a .table .now) (a .out .now) (worked w .0)
+    room-enough (a .program .now) (a .trace .now) (a .n) (a .table .now) (a .out .now) (worked w .0)
     (sized (w .before .before .before .before .before .before .before)) (w .before .before .before .before .before .before .if1 .left)
 
 enough : (w : tie.After-verdict) → let a = start w .args in
-    length (recordOf (a .program .now) (a .trace .now) (a .n) (a .label)) ≤ length (a .out .now)
+    length (recordOf (a .program .now) (a .trace .now) (a .n)) ≤ length (a .out .now)
 enough w =
     rw (← sized (w .before .before .before .before .before .before .before)) (w .before .before .before .before .before .before .if1 .left)
 
@@ -69,7 +67,7 @@ few-samples : (w : tie.After-verdict) → start w .args .n ≤ mostSamples
 unfolding recorded
 few-samples w =
     let a = start w .args in
-    let s = stated (a .program .now) (a .trace .now) (a .n) (a .label) (a .table .now) (a .out .now) (are-bytes w) (label-size (start w)) (passes w)
+    let s = stated (a .program .now) (a .trace .now) (a .n) (a .table .now) (a .out .now) (are-bytes w) (passes w)
     (worked w .1) in
     rw (length-samples (a .trace .now) (a .n)) at (s .few)
 
@@ -98,19 +96,19 @@ returns : tie.Need-returns
 returns c =
     let told = c .before .before .before in
     let a = told .before .before .before .before .before .before .before .args in
-    let r = refused-written (a .program .now) (a .trace .now) (a .n) (a .label) (a .table .now) (a .out .now)
-    (evaluation-first (a .program .now) (a .trace .now) (a .n) (a .label) (a .table .now) (a .out .now)
+    let r = refused-written (a .program .now) (a .trace .now) (a .n) (a .table .now) (a .out .now)
+    (evaluation-first (a .program .now) (a .trace .now) (a .n) (a .table .now) (a .out .now)
     (sym (told .check .ensures) ∙ c .before .refusal .given .1)) in
-    written-owed (a .program .now) (a .trace .now) (a .n) (a .label) (a .table .now) (a .out .now) r
+    written-owed (a .program .now) (a .trace .now) (a .n) (a .table .now) (a .out .now) r
 
 returns-2 : tie.Need-returns-2
 returns-2 c =
     let told = c .before .before in
     let a = told .before .before .before .before .before .before .before .args in
-    let r = refused-written (a .program .now) (a .trace .now) (a .n) (a .label) (a .table .now) (a .out .now)
-    (room-last (a .program .now) (a .trace .now) (a .n) (a .label) (a .table .now) (a .out .now)
+    let r = refused-written (a .program .now) (a .trace .now) (a .n) (a .table .now) (a .out .now)
+    (room-last (a .program .now) (a .trace .now) (a .n) (a .table .now) (a .out .now)
     (sym (told .check .ensures) ∙ c .enum-told .given .1) (sized (told .before .before)) (told .before .if1 .taken)) in
-    written-owed (a .program .now) (a .trace .now) (a .n) (a .label) (a .table .now) (a .out .now) r
+    written-owed (a .program .now) (a .trace .now) (a .n) (a .table .now) (a .out .now) r
 
 evaluate-requires : tie.Need-evaluate-requires
 evaluate-requires c κs = search needs
@@ -136,11 +134,11 @@ returns-3 c =
     let a = told .before .before .before .before .before .before .before .before .args in
     let refused = evaluation-refused (a .program .now) (a .trace .now) (a .n) (length (a .table .now)) (told .evaluate .ensures .0)
     (c .before .refusal2 .given .1) in
-    let r = refused-written (a .program .now) (a .trace .now) (a .n) (a .label) (a .table .now) (a .out .now)
-    (evaluation-first (a .program .now) (a .trace .now) (a .n) (a .label) (a .table .now) (a .out .now) refused) in
-    let same = refused-table (a .program .now) (a .trace .now) (a .n) (a .label) (a .table .now) (a .out .now) refused
+    let r = refused-written (a .program .now) (a .trace .now) (a .n) (a .table .now) (a .out .now)
+    (evaluation-first (a .program .now) (a .trace .now) (a .n) (a .table .now) (a .out .now) refused) in
+    let same = refused-table (a .program .now) (a .trace .now) (a .n) (a .table .now) (a .out .now) refused
     (told .evaluate .ensures .1 .1 .0) in
-    written-owed (a .program .now) (a .trace .now) (a .n) (a .label) (a .table .now) (a .out .now) (r .0, (r .1 .0, same ∙ r .1 .1))
+    written-owed (a .program .now) (a .trace .now) (a .n) (a .table .now) (a .out .now) (r .0, (r .1 .0, same ∙ r .1 .1))
 
 same-length-2 : tie.Need-same-length-2
 same-length-2 c = search needs
@@ -154,11 +152,11 @@ returns-4 c =
     let s = start w in
     let a = s .args in
     let told = w .before .before .before .before .evaluate .ensures in
-    let whole = filled-written (a .program .now) (a .trace .now) (a .n) (a .label) (a .table .now) (a .out .now) (are-bytes w) (label-size s)
+    let whole = filled-written (a .program .now) (a .trace .now) (a .n) (a .table .now) (a .out .now) (are-bytes w)
     (passes w) (worked w .1) (enough w) (c .before .before .fill .ensures) in
-    let r = passed-written (a .program .now) (a .trace .now) (a .n) (a .label) (a .table .now) (a .out .now) (passes w)
+    let r = passed-written (a .program .now) (a .trace .now) (a .n) (a .table .now) (a .out .now) (passes w)
     (sized (w .before .before .before .before .before .before .before)) (worked w .1) whole (told .1 .1 .0) in
-    written-owed (a .program .now) (a .trace .now) (a .n) (a .label) (a .table .now) (a .out .now) r
+    written-owed (a .program .now) (a .trace .now) (a .n) (a .table .now) (a .out .now) r
 
 pub write-spec : {M : Type 1} → statement M
 write-spec =

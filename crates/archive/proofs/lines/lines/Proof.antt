@@ -8,6 +8,7 @@ use borrow.Author.Needs.{needs}
 use Rattle.encoding.proofs.Putting.{Left, front-end, length-begins}
 use Rattle.layout.specs.declared.Reading.the-variants as read
 use Rattle.record.specs.Reading.{reading}
+use Rattle.rule.specs.Form.{AreBytes}
 use Rattle.archive.specs.Walk.{walk}
 use Rattle.archive.specs.Listing.{listingCells, stopLine, linesOf}
 use Rattle.archive.proofs.Listing.{Turn, turn-start, lines-short, reading-told, checked-told, turn-stop, turn-end, start-below, turn-room, turn-next}
@@ -45,12 +46,19 @@ recorded : (c : tie.After-reading2 Inv-loop μ-loop) → let e = c .before .befo
     reading (take (e .before .before .before .before .loop .left) (start e .args .archive .now)) ≡ read.Record (c .reading2 .given .0 .0)
 recorded c = let e = c .before .before .before .before in reading-told (turn e) (e .examine .ensures .0) ∙ c .reading2 .given .1
 
--- the lines of an archive fit the output
-fits : (s : tie.Start Inv-loop μ-loop) → length (linesOf 0 (walk (s .args .archive .now))) ≤ length (s .args .out .now)
-fits s = lines-short (s .args .archive .now) (s .args .out .now) (s .pre .0) (s .pre .2)
+-- the archive is bytes, so its lines fit the output
+abbrev known : tie.After-examine Inv-loop μ-loop → tie.After-shared-slice-known Inv-loop μ-loop
+known c = c .before .before .before .before .before .before .before
+
+are-bytes : (k : tie.After-shared-slice-known Inv-loop μ-loop) → AreBytes (k .before .args .archive .now)
+are-bytes k i = omega (arith, k .shared-slice-known .given i)
+
+fits : (k : tie.After-shared-slice-known Inv-loop μ-loop) → let a = k .before .args in
+    length (linesOf 0 (walk (a .archive .now))) ≤ length (a .out .now)
+fits k = let s = k .before in lines-short (s .args .archive .now) (s .args .out .now) (are-bytes k) (s .pre .0) (s .pre .2)
 
 loop-holds : tie.Need-loop-holds Inv-loop μ-loop
-loop-holds c = let s = c .before .before .before in turn-start _ _ _ (s .pre .0) (s .pre .2) (s .pre .1)
+loop-holds c = let s = c .before .before .before in turn-start _ _ _ (are-bytes (c .before .before)) (s .pre .0) (s .pre .2) (s .pre .1)
 
 slice-aggregate-examine : tie.Need-slice-aggregate-examine Inv-loop μ-loop
 slice-aggregate-examine c = sym (length-take-le _ _ (c .before .before .loop .inv .within))
@@ -72,11 +80,11 @@ same-length c = let e = c .before .before .before .before .before .before .befor
 
 returns : tie.Need-returns Inv-loop μ-loop
 returns c = let e = c .before .before .before .before .before .before .before .before .before in front-end
-    (stopped (c .before .before .before .before .before)) (fits (start e)) (c .before .before .stop-line .ensures)
+    (stopped (c .before .before .before .before .before)) (fits (known e)) (c .before .before .stop-line .ensures)
 
 same-length-2 : tie.Need-same-length-2 Inv-loop μ-loop
-same-length-2 c = let s = start (c .before .before .before .before .before .before .before .before .before) in ap length (returns c .1)
-    ∙ length-begins (linesOf 0 (walk (s .args .archive .now))) (s .args .out .now) (fits s)
+same-length-2 c = let e = c .before .before .before .before .before .before .before .before .before in
+    ap length (returns c .1) ∙ length-begins (linesOf 0 (walk (start e .args .archive .now))) (start e .args .out .now) (fits (known e))
 
 enum-known-reading-2 : tie.Need-enum-known-reading-2 Inv-loop μ-loop
 enum-known-reading-2 c = search needs
@@ -123,12 +131,12 @@ same-length-3 c = c .before .before .before .before .before .loop .inv .cells
 
 returns-2 : tie.Need-returns-2 Inv-loop μ-loop
 returns-2 c = front-end (turn-end (c .before .before .before .before .before .loop .inv)
-    (c .before .before .before .before .loop-test .left)) (fits (c .before .before .before .before .before .before .before .before .before))
+    (c .before .before .before .before .loop-test .left)) (fits (c .before .before .before .before .before .before .before .before))
     (c .before .before .end-line .ensures)
 
 same-length-4 : tie.Need-same-length-4 Inv-loop μ-loop
-same-length-4 c = let s = c .before .before .before .before .before .before .before .before .before in ap length (returns-2 c .1)
-    ∙ length-begins (linesOf 0 (walk (s .args .archive .now))) (s .args .out .now) (fits s)
+same-length-4 c = let k = c .before .before .before .before .before .before .before .before in
+    ap length (returns-2 c .1) ∙ length-begins (linesOf 0 (walk (k .before .args .archive .now))) (k .before .args .out .now) (fits k)
 
 pub lines-spec : {M : Type 1} → statement M
 lines-spec =
