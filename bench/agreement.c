@@ -5,9 +5,10 @@
 #include "sides.h"
 
 const struct side side[SIDES] = {
-    {"the library", sik_check_program, sik_evaluate, sik_read_record, sik_check_record},
-    {"plain C", plain_check_program, plain_evaluate, plain_read_record, plain_check_record},
-    {"decoding C", plain_check_program, decoded_evaluate, plain_read_record, decoded_check_record},
+    {"the library", sik_check_program, sik_evaluate, sik_evaluate_two, sik_read_record, sik_check_record},
+    {"plain C", plain_check_program, plain_evaluate, plain_evaluate_two, plain_read_record, plain_check_record},
+    {"decoding C", plain_check_program, decoded_evaluate, decoded_evaluate_two, plain_read_record,
+     decoded_check_record},
 };
 
 /* The tables of the sides, and how many calls were compared. */
@@ -55,15 +56,28 @@ static void compare(struct tables *t, const char *what, const struct given *g, u
 
 /* ---- One call of each side */
 
-/* In a table of so many cells, of which the sides are told a part. */
-static uint32_t evaluate(struct tables *t, struct bytes program, struct bytes trace, unsigned n, size_t lent,
+/* The trace of a contact, of so many samples. */
+struct trace {
+    struct bytes bytes;
+    unsigned n;
+};
+
+/* On one trace or two, in a table of so many cells, of which the sides are told a part. */
+static uint32_t evaluate(struct tables *t, struct bytes program, const struct trace *trace, size_t traces, size_t lent,
                          size_t told)
 {
+    const struct bytes ram = trace[0].bytes;
     struct given g[SIDES];
     for (unsigned i = 0; i < SIDES; i++) {
         spoil(&g[i]);
         spoil_cells(t, i, lent);
-        g[i].number = side[i].evaluate(program.at, program.len, trace.at, trace.len, n, t->of[i], told, g[i].answer);
+        if (traces == 1)
+            g[i].number = side[i].evaluate(program.at, program.len, ram.at, ram.len, trace[0].n, t->of[i], told,
+                                           g[i].answer);
+        else
+            g[i].number = side[i].evaluate_two(program.at, program.len, ram.at, ram.len, trace[0].n,
+                                               trace[1].bytes.at, trace[1].bytes.len, trace[1].n, t->of[i], told,
+                                               g[i].answer);
     }
     compare(t, "evaluating", g, SIDES, SIK_EVALUATED_SIZE, lent);
     return g->number;
@@ -104,8 +118,8 @@ static void check_record(struct tables *t, const uint8_t *bytes, size_t len)
 /* ---- Faults */
 
 /* The bytes that are put in the place of another: limits of each group of the table of bytes, and the mark. */
-static const uint8_t faults[] = {0x00, 0x01, 0x02, 0x03, 0x05, 0x10, 0x11, 0x14, 0x20, 0x21,
-                                 0x22, 0x23, 0x24, 0x25, 0x52, 0x80, 0x81, 0x9F, 0xA0, 0xFF};
+static const uint8_t faults[] = {0x00, 0x01, 0x02, 0x03, 0x04, 0x05, 0x10, 0x11, 0x14, 0x20, 0x21,
+                                 0x22, 0x23, 0x24, 0x25, 0x52, 0x80, 0x81, 0x9F, 0xA0, 0xA1, 0xFF};
 
 /* Each byte of short bytes is changed to all of them, and of long bytes to some of them, not the same for all bytes. */
 static size_t step(size_t len) { return len < 300 ? 1 : 9; }
@@ -130,7 +144,8 @@ enum {
     TRAILER = 8,
     VERDICT_TO_END = 13, /* verdict, pass count and trailer */
     LABEL = 8,
-    MOST_RECORD = 4096 + 512 + LABEL + VERDICT_TO_END
+    MOST_RECORD = 4096 + 512 + LABEL + VERDICT_TO_END,
+    SHORT = 100 /* bytes below which a record with faults is checked as well as read */
 };
 
 /* A record of format 2 in format 1: with a label before the verdict, and distances that are larger by it. */
@@ -160,7 +175,7 @@ static void record_faults(struct tables *t, const struct bytes *record)
         for (size_t j = i % step(record->len); j < sizeof faults; j += step(record->len)) {
             copy[i] = faults[j];
             read_record(t, copy, record->len);
-            if (record->len < 100)
+            if (record->len < SHORT)
                 check_record(t, copy, record->len);
         }
         copy[i] = record->at[i];
@@ -210,19 +225,27 @@ static void check_limits(struct tables *t)
 /* ---- The workloads */
 
 /* A table that just holds the cells needed is enough, one cell less is refused, and so is a trace that is one byte too
- * short for n or more than 4,095 samples. */
+ * short for n or more than 4,095 samples, and a program over another number of contacts than there are traces. */
 static void agree_evaluate(struct tables *t, const struct workload *w)
 {
-    struct bytes program = w->item[0], trace = w->item[1];
+    const struct bytes program = w->item[0];
+    const size_t traces = w->items - 1;
+    struct trace trace[2] = {{w->item[1], w->n}, {traces == 2 ? w->item[2] : w->item[1], w->n}};
+    struct trace *const last = &trace[traces - 1];
     size_t cells = CELLS_LENT;
-    uint32_t number = evaluate(t, program, trace, w->n, CELLS_LENT, CELLS_LENT);
+    uint32_t number = evaluate(t, program, trace, traces, CELLS_LENT, CELLS_LENT);
     while (cells > 0 && t->of[LIBRARY][cells - 1] == SPOILT)
         cells--;
-    if (number || evaluate(t, program, trace, w->n, CELLS_LENT, cells)
-        || evaluate(t, program, trace, w->n, CELLS_LENT, cells - 1) != SIK_REFUSED_TABLE_SHORT
-        || evaluate(t, program, trace, w->n + 8, CELLS_LENT, CELLS_LENT) != SIK_REFUSED_TRACE_LENGTH
-        || (w->n == 4095 && evaluate(t, program, trace, 4096, CELLS_LENT, CELLS_LENT) != SIK_REFUSED_TRACE_LENGTH))
+    if (number || evaluate(t, program, trace, traces, CELLS_LENT, cells)
+        || evaluate(t, program, trace, traces, CELLS_LENT, cells - 1) != SIK_REFUSED_TABLE_SHORT
+        || evaluate(t, program, trace, 3 - traces, CELLS_LENT, CELLS_LENT) != SIK_REFUSED_FUNCTION_COUNT)
         fail("a workload is refused that should not be, or the other way round");
+    last->n += 8;
+    if (evaluate(t, program, trace, traces, CELLS_LENT, CELLS_LENT) != SIK_REFUSED_TRACE_LENGTH)
+        fail("a trace is too short, and accepted");
+    last->n = 4096;
+    if (w->n == 4095 && evaluate(t, program, trace, traces, CELLS_LENT, CELLS_LENT) != SIK_REFUSED_TRACE_LENGTH)
+        fail("a trace is too long, and accepted");
 }
 
 static void agree_walk(struct tables *t, const struct bytes *archive)
@@ -243,12 +266,34 @@ static void agree_record(struct tables *t, const struct bytes *record)
     record_faults(t, record);
 }
 
+/* Records of a rule over two contacts, with faults: as many samples of each, more of the one, none of the other. */
+static void agree_two(struct tables *t, const struct workload *w)
+{
+    static const unsigned counts[][2] = {{8, 8}, {9, 3}, {0, 5}, {12, 0}, {0, 0}};
+    const struct bytes *item = w->item;
+    for (size_t i = 0; i < sizeof counts / sizeof *counts; i++) {
+        const unsigned n = counts[i][0], m = counts[i][1];
+        uint8_t trace[2][2], out[SHORT];
+        uint64_t answer[SIK_WRITTEN_SIZE];
+        memcpy(trace[0], item[1].at, 2), memcpy(trace[1], item[2].at, 2);
+        trace[0][n / 8] &= (1 << n % 8) - 1, trace[1][m / 8] &= (1 << m % 8) - 1; /* no bit above the last sample */
+        if (sik_write_record_two(item[0].at, item[0].len, trace[0], (n + 7) / 8, n, trace[1], (m + 7) / 8, m,
+                                 *t->of, CELLS_LENT, out, sizeof out, answer))
+            fail("a record over two contacts is refused");
+        agree_record(t, &(struct bytes){out, answer[SIK_WRITTEN_LENGTH]});
+    }
+}
+
 uint64_t agree(const struct workload *w, uint16_t *const table[SIDES])
 {
     struct tables t = {table, 0};
     switch (w->sort) {
     case EVALUATE:
         agree_evaluate(&t, w);
+        if (w->items == 3) {
+            program_faults(&t, &w->item[0]);
+            agree_two(&t, w);
+        }
         break;
     case WALK:
         agree_walk(&t, &w->item[0]);
@@ -275,21 +320,29 @@ uint64_t agree(const struct workload *w, uint16_t *const table[SIDES])
 
 /* ---- At random */
 
-enum { RANDOM_PROGRAMS = 20000, RANDOM_SAMPLES = 40 };
+enum { RANDOM_PROGRAMS = 20000, RANDOM_SAMPLES = 40, RANDOM_BYTES = RANDOM_SAMPLES / 8 };
+
+/* A trace of a few samples; a bit above the last is seldom set. */
+static struct trace random_trace(uint32_t *seed, uint8_t bytes[RANDOM_BYTES])
+{
+    const unsigned n = random_below(seed, random_below(seed, 4) ? 5 : RANDOM_SAMPLES + 1);
+    for (unsigned j = 0; j < RANDOM_BYTES; j++)
+        bytes[j] = random_below(seed, 256);
+    if (n % 8 && random_below(seed, 8))
+        bytes[n / 8] &= (1 << n % 8) - 1;
+    return (struct trace){{bytes, (n + 7) / 8}, n};
+}
 
 uint64_t agree_at_random(uint16_t *const table[SIDES])
 {
     struct tables t = {table, 0};
     uint32_t seed = 1;
-    uint8_t program[MOST_RANDOM], trace[RANDOM_SAMPLES / 8];
+    uint8_t program[MOST_RANDOM], bytes[2][RANDOM_BYTES];
     for (unsigned i = 0; i < RANDOM_PROGRAMS; i++) {
-        struct bytes p = random_program(&seed, program);
-        unsigned n = random_below(&seed, random_below(&seed, 4) ? 5 : RANDOM_SAMPLES + 1);
-        for (unsigned j = 0; j < sizeof trace; j++)
-            trace[j] = random_below(&seed, 256);
-        if (n % 8 && random_below(&seed, 8)) /* a bit above the last sample is seldom set */
-            trace[n / 8] &= (1 << n % 8) - 1;
-        evaluate(&t, p, (struct bytes){trace, (n + 7) / 8}, n, LISTING_CELLS, LISTING_CELLS);
+        const unsigned contacts = 1 + i % 2, other = random_below(&seed, 64) == 0;
+        const struct bytes p = random_program(&seed, contacts, program);
+        const struct trace trace[2] = {random_trace(&seed, bytes[0]), random_trace(&seed, bytes[1])};
+        evaluate(&t, p, trace, other ? 3 - contacts : contacts, LISTING_CELLS, LISTING_CELLS);
     }
     return t.calls;
 }

@@ -14,6 +14,10 @@ uint32_t plain_check_program(const uint8_t *program, size_t program_len);
 uint32_t plain_evaluate(const uint8_t *program, size_t program_len, const uint8_t *trace, size_t trace_len, uint64_t n,
                         uint16_t *table, size_t table_len, uint64_t answer[3]);
 
+uint32_t plain_evaluate_two(const uint8_t *program, size_t program_len, const uint8_t *ram, size_t ram_len, uint64_t n,
+                            const uint8_t *guard, size_t guard_len, uint64_t m, uint16_t *table, size_t table_len,
+                            uint64_t answer[3]);
+
 uint32_t plain_read_record(const uint8_t *bytes, size_t bytes_len, uint64_t parts[SIK_PARTS_SIZE]);
 
 uint32_t plain_check_record(const uint8_t *bytes, size_t bytes_len, uint16_t *table, size_t table_len,
@@ -23,6 +27,10 @@ uint32_t plain_check_record(const uint8_t *bytes, size_t bytes_len, uint16_t *ta
 
 uint32_t decoded_evaluate(const uint8_t *program, size_t program_len, const uint8_t *trace, size_t trace_len,
                           uint64_t n, uint16_t *table, size_t table_len, uint64_t answer[3]);
+
+uint32_t decoded_evaluate_two(const uint8_t *program, size_t program_len, const uint8_t *ram, size_t ram_len,
+                              uint64_t n, const uint8_t *guard, size_t guard_len, uint64_t m, uint16_t *table,
+                              size_t table_len, uint64_t answer[3]);
 
 uint32_t decoded_check_record(const uint8_t *bytes, size_t bytes_len, uint16_t *table, size_t table_len,
                               uint64_t answer[1]);

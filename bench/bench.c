@@ -25,6 +25,16 @@ static double seconds(void)
     return t.tv_sec + t.tv_nsec * 1e-9;
 }
 
+/* Evaluates a workload's program on its trace or traces. */
+static uint32_t evaluate(const struct side *s, const struct workload *w, uint16_t *table, uint64_t answer[3])
+{
+    const struct bytes *item = w->item;
+    if (w->items == 3)
+        return s->evaluate_two(item[0].at, item[0].len, item[1].at, item[1].len, w->n, item[2].at, item[2].len, w->n,
+                               table, CELLS_LENT, answer);
+    return s->evaluate(item[0].at, item[0].len, item[1].at, item[1].len, w->n, table, CELLS_LENT, answer);
+}
+
 /* Does a workload once; answers a sum of what was answered. */
 static uint64_t run(const struct side *s, const struct workload *w, uint16_t *table)
 {
@@ -32,7 +42,7 @@ static uint64_t run(const struct side *s, const struct workload *w, uint16_t *ta
     uint64_t parts[SIK_PARTS_SIZE] = {0}, answer[3] = {0}, sum = 0;
     switch (w->sort) {
     case EVALUATE:
-        sum = s->evaluate(item[0].at, item[0].len, item[1].at, item[1].len, w->n, table, CELLS_LENT, answer);
+        sum = evaluate(s, w, table, answer);
         sum += answer[0] + 8 * answer[1];
         break;
     case WALK:
@@ -80,7 +90,7 @@ static double units_of(const struct workload *w, uint16_t *table, char passes[11
     uint64_t answer[3] = {0, 0, 0};
     double bytes = 0;
     if (w->sort == EVALUATE) {
-        side[PLAIN].evaluate(item[0].at, item[0].len, item[1].at, item[1].len, w->n, table, CELLS_LENT, answer);
+        evaluate(&side[PLAIN], w, table, answer);
         snprintf(passes, 11, "%u", (unsigned)answer[1]);
         return w->unit == PER_CALL ? 1 : answer[2];
     }

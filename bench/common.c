@@ -9,17 +9,23 @@ enum {
     MOST_DEPTH = 64,
     MOST_SAMPLES = 4095,
     MOST_CELLS = 16777216,
-    TRAILER = 8,
+    TWO = 0x80,            /* what marks the count of functions over two contacts */
+    TRAILER = 8,           /* with the count of one trace */
     LABEL = 8,             /* of format 1, between the trace and the verdict */
     VERDICT_AND_PASSES = 5 /* before the trailer */
 };
+
+/* What a place demands: a kind, or a list of either contact. */
+enum { EITHER = GUARD_LIST + 1 };
 
 static unsigned sixteen(const uint8_t *at) { return at[0] | at[1] << 8; }
 
 /* ---- Checking a program */
 
+static int allows(unsigned demand, unsigned kind) { return demand == EITHER ? kind != BOOL : kind == demand; }
+
 /* The place after the expression at a place of a body, or minus the number of the refusal. */
-static int expression(const struct rule *r, const struct function *own, unsigned list, unsigned depth, unsigned at)
+static int expression(const struct rule *r, const struct function *own, unsigned demand, unsigned depth, unsigned at)
 {
     const struct function *f;
     unsigned byte;
@@ -31,68 +37,89 @@ static int expression(const struct rule *r, const struct function *own, unsigned
     byte = r->code[at];
     switch (byte) {
     case 0x00: case 0x01:
-        return list ? -SIK_REFUSED_WRONG_KIND : next;
+        return demand == BOOL ? next : -SIK_REFUSED_WRONG_KIND;
     case 0x02:
-        return list ? next : -SIK_REFUSED_WRONG_KIND;
+        return allows(demand, RAM_LIST) ? next : -SIK_REFUSED_WRONG_KIND;
+    case 0x03:
+        if (r->contacts == 1)
+            return -SIK_REFUSED_UNKNOWN_BYTE;
+        return allows(demand, GUARD_LIST) ? next : -SIK_REFUSED_WRONG_KIND;
     case 0x10: case 0x11: case 0x12: case 0x13:
         if (byte - 0x10 >= own->params)
             return -SIK_REFUSED_UNKNOWN_BYTE;
-        return is_list(own->kinds, byte - 0x10) == list ? next : -SIK_REFUSED_WRONG_KIND;
+        return allows(demand, own->kind[byte - 0x10]) ? next : -SIK_REFUSED_WRONG_KIND;
     case 0x20: case 0x22:
-        return list ? -SIK_REFUSED_WRONG_KIND : expression(r, own, 1, depth - 1, next);
+        return demand == BOOL ? expression(r, own, EITHER, depth - 1, next) : -SIK_REFUSED_WRONG_KIND;
     case 0x21:
-        return list ? expression(r, own, 1, depth - 1, next) : -SIK_REFUSED_WRONG_KIND;
+        return demand == BOOL ? -SIK_REFUSED_WRONG_KIND : expression(r, own, demand, depth - 1, next);
     case 0x23:
-        next = expression(r, own, 0, depth - 1, next);
+        next = expression(r, own, BOOL, depth - 1, next);
         if (next > 0)
-            next = expression(r, own, list, depth - 1, next);
-        return next > 0 ? expression(r, own, list, depth - 1, next) : next;
+            next = expression(r, own, demand, depth - 1, next);
+        return next > 0 ? expression(r, own, demand, depth - 1, next) : next;
     case 0x24:
         return -SIK_REFUSED_LIST_CONSTRUCTOR;
     default:
         if (byte < 0x80 || byte - 0x80 >= r->functions)
             return -SIK_REFUSED_UNKNOWN_BYTE;
         f = &r->function[byte - 0x80];
-        if (is_list(f->kinds, 4) != list)
+        if (!allows(demand, f->kind[RESULT]))
             return -SIK_REFUSED_WRONG_KIND;
         for (unsigned i = 0; i < f->params && next > 0; i++)
-            next = expression(r, own, is_list(f->kinds, i), depth - 1, next);
+            next = expression(r, own, f->kind[i], depth - 1, next);
         return next;
     }
 }
 
-/* Checks a program, and leaves in the rule where its functions stand. */
-static uint32_t check(struct rule *r, const uint8_t *program, size_t len)
+/* Whether function 0 is of main's kind: a list of each contact, Bool result. */
+static int is_main(const struct rule *r)
 {
-    size_t at = 1;
+    const struct function *f = &r->function[0];
+    for (unsigned i = 0; i < f->params; i++)
+        if (f->kind[i] != RAM_LIST + i)
+            return 0;
+    return f->params == r->contacts && f->kind[RESULT] == BOOL;
+}
+
+/* Checks a program over so many contacts, or with 0 over either number, and leaves in the rule where its functions
+ * stand. */
+static uint32_t check(struct rule *r, unsigned contacts, const uint8_t *program, size_t len)
+{
+    size_t at = 1, header;
     if (len == 0 || len > MOST_PROGRAM)
         return SIK_REFUSED_PROGRAM_LENGTH;
     r->code = program, r->len = len;
-    r->functions = program[0];
-    if (r->functions == 0 || r->functions > MOST_FUNCTIONS)
+    r->contacts = program[0] < TWO ? 1 : 2;
+    r->functions = program[0] % TWO;
+    header = 3 + r->contacts;
+    if (r->functions == 0 || r->functions > MOST_FUNCTIONS || (contacts && contacts != r->contacts))
         return SIK_REFUSED_FUNCTION_COUNT;
     for (unsigned g = 0; g < r->functions; g++) {
         struct function *f = &r->function[g];
-        unsigned length;
-        if (len - at < 4)
+        unsigned lists, guards, length;
+        if (len - at < header)
             return SIK_REFUSED_HEADER_CUT;
-        f->params = program[at], f->kinds = program[at + 1], length = sixteen(program + at + 2);
-        if (f->params > MOST_PARAMS || (f->kinds & 15) >> f->params || f->kinds >> 5)
+        f->params = program[at], lists = program[at + 1];
+        guards = r->contacts == 2 ? program[at + 2] : 0;
+        if (f->params > MOST_PARAMS || (lists & 15) >> f->params || lists >> 5 || guards & ~lists)
             return SIK_REFUSED_PARAMETER_KINDS;
-        at += 4;
+        at += header;
+        length = sixteen(program + at - 2);
         if (length == 0 || length > MOST_BODY || length > len - at)
             return SIK_REFUSED_BODY_LENGTH;
+        for (unsigned i = 0; i <= RESULT; i++)
+            f->kind[i] = (lists >> i & 1) + (guards >> i & 1);
         f->start = at;
         at += length;
         f->end = at;
     }
     if (at != len)
         return SIK_REFUSED_BYTES_AFTER_FUNCTIONS;
-    if (r->function[0].params != 1 || r->function[0].kinds != 1)
+    if (!is_main(r))
         return SIK_REFUSED_MAIN_KIND;
     for (unsigned g = 0; g < r->functions; g++) {
         const struct function *f = &r->function[g];
-        int end = expression(r, f, is_list(f->kinds, 4), MOST_DEPTH, f->start);
+        int end = expression(r, f, f->kind[RESULT], MOST_DEPTH, f->start);
         if (end < 0)
             return -end;
         if ((unsigned)end != f->end)
@@ -104,7 +131,7 @@ static uint32_t check(struct rule *r, const uint8_t *program, size_t len)
 uint32_t plain_check_program(const uint8_t *program, size_t program_len)
 {
     struct rule r;
-    return check(&r, program, program_len);
+    return check(&r, 0, program, program_len);
 }
 
 /* ---- Evaluating */
@@ -120,25 +147,29 @@ static uint64_t lay_out(struct rule *r)
         struct function *f = &r->function[g];
         uint64_t cells = 1;
         for (unsigned p = 0; p < f->params; p++)
-            cells *= radix(r, is_list(f->kinds, p));
+            cells *= radix(r, f->kind[p]);
         f->first = total, f->cells = cells;
         total += cells;
     }
     return total;
 }
 
-uint32_t begin(struct rule *r, const uint8_t *program, size_t program_len, const uint8_t *trace, size_t trace_len,
-               uint64_t n, uint16_t *table, size_t table_len)
+uint32_t begin(struct rule *r, const uint8_t *program, size_t program_len, const struct traces *t, uint16_t *table,
+               size_t table_len)
 {
-    uint32_t number = check(r, program, program_len);
+    uint32_t number = check(r, t->contacts, program, program_len);
     uint64_t cells;
     if (number)
         return number;
-    if (n > MOST_SAMPLES || trace_len != (n + 7) / 8)
-        return SIK_REFUSED_TRACE_LENGTH;
-    if (padding_set(trace, n))
-        return SIK_REFUSED_PADDING_SET;
-    r->trace = trace, r->table = table, r->n = n;
+    for (unsigned c = 0; c < t->contacts; c++)
+        if (t->n[c] > MOST_SAMPLES || t->len[c] != (t->n[c] + 7) / 8)
+            return SIK_REFUSED_TRACE_LENGTH;
+    for (unsigned c = 0; c < t->contacts; c++)
+        if (padding_set(t->at[c], t->n[c]))
+            return SIK_REFUSED_PADDING_SET;
+    for (unsigned c = 0; c < t->contacts; c++)
+        r->trace[c] = t->at[c], r->n[c] = t->n[c];
+    r->table = table;
     cells = lay_out(r);
     if (cells > table_len || cells > MOST_CELLS)
         return SIK_REFUSED_TABLE_SHORT;
@@ -149,6 +180,7 @@ uint32_t begin(struct rule *r, const uint8_t *program, size_t program_len, const
 
 void make_passes(const struct rule *r, uint32_t (*pass)(const struct rule *), uint64_t answer[3])
 {
+    const uint16_t *main_cell = r->table + r->function[0].cells - 1;
     uint64_t undecided = r->cells, passes = 0, visited = 0;
     uint32_t stored;
     do {
@@ -157,7 +189,7 @@ void make_passes(const struct rule *r, uint32_t (*pass)(const struct rule *), ui
         undecided -= stored;
         passes++;
     } while (stored);
-    answer[0] = r->table[r->n] <= TAIL ? r->table[r->n] : SIK_FOREVER;
+    answer[0] = *main_cell <= TAIL ? *main_cell : SIK_FOREVER;
     answer[1] = passes;
     answer[2] = visited;
 }
@@ -168,19 +200,26 @@ void make_passes(const struct rule *r, uint32_t (*pass)(const struct rule *), ui
 static uint32_t read_parts(const uint8_t *bytes, size_t len, uint64_t parts[SIK_PARTS_SIZE])
 {
     const uint8_t *trailer;
-    size_t at, first, second, n, label, after_trace;
+    size_t at, first, second, ram, guard, n, m = 0, label, after_traces;
+    unsigned format;
     uint32_t passes;
     if (len < TRAILER)
         return SIK_REFUSED_TRAILER_MISSING;
-    at = len - TRAILER;
-    trailer = bytes + at;
-    if (trailer[7] != 0x52 || (trailer[6] != 1 && trailer[6] != 2))
+    format = bytes[len - 2];
+    if (bytes[len - 1] != 0x52 || format == 0 || format > 3)
         return SIK_REFUSED_MARK_OR_FORMAT;
-    label = trailer[6] == 1 ? LABEL : 0, after_trace = label + VERDICT_AND_PASSES;
+    if (format == 3 && len < TRAILER + 2)
+        return SIK_REFUSED_TRAILER_MISSING;
+    at = len - TRAILER - (format == 3 ? 2 : 0);
+    trailer = bytes + at;
+    label = format == 1 ? LABEL : 0, after_traces = label + VERDICT_AND_PASSES;
     first = sixteen(trailer), second = sixteen(trailer + 2), n = sixteen(trailer + 4);
-    if (n > MOST_SAMPLES || second != (n + 7) / 8 + after_trace || first <= second || first > at)
+    if (format == 3)
+        m = sixteen(trailer + 6);
+    ram = (n + 7) / 8, guard = (m + 7) / 8;
+    if (n > MOST_SAMPLES || m > MOST_SAMPLES || second != ram + guard + after_traces || first <= second || first > at)
         return SIK_REFUSED_TRAILER_FIELDS;
-    if (padding_set(trailer - second, n))
+    if (padding_set(trailer - second, n) || padding_set(trailer - second + ram, m))
         return SIK_REFUSED_PADDING_SET;
     passes = sixteen(trailer - 4) | (uint32_t)sixteen(trailer - 2) << 16;
     if (trailer[-5] > SIK_TAIL || passes == 0)
@@ -188,38 +227,49 @@ static uint32_t read_parts(const uint8_t *bytes, size_t len, uint64_t parts[SIK_
     parts[SIK_PARTS_PROGRAM_START] = parts[SIK_PARTS_BEFORE] = at - first;
     parts[SIK_PARTS_PROGRAM_LENGTH] = first - second;
     parts[SIK_PARTS_TRACE_START] = at - second;
-    parts[SIK_PARTS_TRACE_LENGTH] = second - after_trace;
+    parts[SIK_PARTS_TRACE_LENGTH] = ram;
     parts[SIK_PARTS_SAMPLES] = n;
-    parts[SIK_PARTS_LABEL_START] = label ? at - after_trace : 0;
+    parts[SIK_PARTS_LABEL_START] = label ? at - after_traces : 0;
     parts[SIK_PARTS_LABEL_LENGTH] = label;
     parts[SIK_PARTS_VERDICT] = trailer[-5];
     parts[SIK_PARTS_PASSES] = passes;
-    parts[SIK_PARTS_FORMAT] = trailer[6];
+    parts[SIK_PARTS_FORMAT] = format;
+    parts[SIK_PARTS_GUARD_START] = format == 3 ? at - second + ram : 0;
+    parts[SIK_PARTS_GUARD_LENGTH] = guard;
+    parts[SIK_PARTS_GUARD_SAMPLES] = m;
     return 0;
 }
+
+/* How many contacts the program of a format is over. */
+static unsigned contacts_of(const uint64_t parts[SIK_PARTS_SIZE]) { return parts[SIK_PARTS_FORMAT] == 3 ? 2 : 1; }
 
 uint32_t plain_read_record(const uint8_t *bytes, size_t bytes_len, uint64_t parts[SIK_PARTS_SIZE])
 {
     uint64_t found[SIK_PARTS_SIZE];
+    struct rule r;
     uint32_t number = read_parts(bytes, bytes_len, found);
     if (number == 0)
-        number = plain_check_program(bytes + found[SIK_PARTS_PROGRAM_START], found[SIK_PARTS_PROGRAM_LENGTH]);
+        number = check(&r, contacts_of(found), bytes + found[SIK_PARTS_PROGRAM_START],
+                       found[SIK_PARTS_PROGRAM_LENGTH]);
     if (number == 0)
         memcpy(parts, found, sizeof found);
     return number;
 }
 
-uint32_t check_record_by(uint32_t (*evaluate)(const uint8_t *, size_t, const uint8_t *, size_t, uint64_t, uint16_t *,
-                                              size_t, uint64_t *),
-                         const uint8_t *bytes, size_t bytes_len, uint16_t *table, size_t table_len,
-                         uint64_t answer[1])
+uint32_t check_record_by(evaluator *evaluate, const uint8_t *bytes, size_t bytes_len, uint16_t *table,
+                         size_t table_len, uint64_t answer[1])
 {
     uint64_t found[SIK_PARTS_SIZE], verdict[3];
     uint32_t number = read_parts(bytes, bytes_len, found);
-    if (number == 0)
-        number = evaluate(bytes + found[SIK_PARTS_PROGRAM_START], found[SIK_PARTS_PROGRAM_LENGTH],
-                          bytes + found[SIK_PARTS_TRACE_START], found[SIK_PARTS_TRACE_LENGTH],
-                          found[SIK_PARTS_SAMPLES], table, table_len, verdict);
+    if (number == 0) {
+        const struct traces t = {
+            contacts_of(found),
+            {bytes + found[SIK_PARTS_TRACE_START], bytes + found[SIK_PARTS_GUARD_START]},
+            {found[SIK_PARTS_TRACE_LENGTH], found[SIK_PARTS_GUARD_LENGTH]},
+            {found[SIK_PARTS_SAMPLES], found[SIK_PARTS_GUARD_SAMPLES]}};
+        number = evaluate(bytes + found[SIK_PARTS_PROGRAM_START], found[SIK_PARTS_PROGRAM_LENGTH], &t, table,
+                          table_len, verdict);
+    }
     if (number == 0)
         answer[0] =
             verdict[0] == found[SIK_PARTS_VERDICT] && verdict[1] == found[SIK_PARTS_PASSES] ? SIK_AGREES : SIK_DIFFERS;

@@ -5,11 +5,12 @@
  */
 #include "common.h"
 
-/* The sorts of decoded nodes. hd, tl and null of a parameter have sorts of their own; so has an if whose condition is a
- * parameter or null or hd of one, and a call with one argument. */
+/* The sorts of decoded nodes. The empty list of the guard, whose number no place holds, has a sort of its own; so have
+ * hd, tl and null of a parameter, an if whose condition is a parameter or null or hd of one, and a call with one
+ * argument. */
 enum {
-    CONSTANT, PARAM, HD, TL, NULL_, HD_PARAM, TL_PARAM, NULL_PARAM, IF, IF_PARAM, IF_NULL_PARAM, IF_HD_PARAM, CALL,
-    CALL_ONE
+    CONSTANT, EMPTY_GUARD, PARAM, HD, TL, NULL_, HD_PARAM, TL_PARAM, NULL_PARAM, IF, IF_PARAM, IF_NULL_PARAM,
+    IF_HD_PARAM, CALL, CALL_ONE
 };
 
 /* A node has its sort in bits 0 to 3, a small number in bits 8 to 15 and four places of 12 bits from bit 16 on. The
@@ -33,10 +34,11 @@ struct kind {
 };
 
 /* What a call asks of a function: its first cell in bits 0 to 31, then the least and the most number of an outcome of
- * its kind in 16 bits each; and the kinds of its parameters. A function without parameters has one of a single value.
- */
+ * its kind in 16 bits each; GUARD if its result is a list of the guard; and the kinds of its parameters. A function
+ * without parameters has one of a single value. */
 struct called {
     uint64_t outcomes;
+    unsigned guard;
     struct kind param[MOST_PARAMS];
 };
 
@@ -58,15 +60,23 @@ static unsigned held(uint64_t outcomes, unsigned cell)
 
 static unsigned head(const struct decoded *d, unsigned v)
 {
-    if (v <= EMPTY)
+    const unsigned guard = v / GUARD;
+    if (in_cell(v) <= EMPTY)
         return v < EMPTY ? v : HEAD;
-    v = d->rule.n + EMPTY - v;
-    return (d->rule.trace[v / 8] >> v % 8 & 1) + FALSE_;
+    v = d->rule.n[guard] + EMPTY - in_cell(v);
+    return (d->rule.trace[guard][v / 8] >> v % 8 & 1) + FALSE_;
 }
 
-static unsigned tail(unsigned v) { return v < EMPTY ? v : v == EMPTY ? TAIL : v - 1; }
+static unsigned tail(unsigned v) { return v < EMPTY ? v : in_cell(v) == EMPTY ? TAIL : v - 1; }
 
-static unsigned null(unsigned v) { return v < EMPTY ? v : v == EMPTY ? TRUE_ : FALSE_; }
+static unsigned null(unsigned v) { return v < EMPTY ? v : in_cell(v) == EMPTY ? TRUE_ : FALSE_; }
+
+/* The outcome in a cell of a function. */
+static unsigned look_up(const struct decoded *d, const struct called *f, uint32_t index)
+{
+    const unsigned cell = held(f->outcomes, d->rule.table[first_cell(f->outcomes) + index]);
+    return cell >= EMPTY ? cell + f->guard : cell;
+}
 
 static unsigned eval(const struct decoded *d, const uint16_t *env, uint64_t node);
 
@@ -95,7 +105,7 @@ static unsigned call(const struct decoded *d, const uint16_t *env, uint64_t node
             return value;
         index = index * f->param[i].values + digit;
     }
-    return held(f->outcomes, d->rule.table[first_cell(f->outcomes) + index]);
+    return look_up(d, f, index);
 }
 
 static unsigned call_one(const struct decoded *d, const uint16_t *env, uint64_t node)
@@ -104,7 +114,7 @@ static unsigned call_one(const struct decoded *d, const uint16_t *env, uint64_t 
     unsigned value = operand(d, env, d->node[place(node, 0)]), digit = value - f->param[0].lowest;
     if (digit >= f->param[0].values)
         return value;
-    return held(f->outcomes, d->rule.table[first_cell(f->outcomes) + digit]);
+    return look_up(d, f, digit);
 }
 
 /* The outcome of a node, with calls looked up in the table. */
@@ -113,6 +123,7 @@ static unsigned eval(const struct decoded *d, const uint16_t *env, uint64_t node
     unsigned condition;
     switch (sort(node)) {
     case CONSTANT: return place(node, 0);
+    case EMPTY_GUARD: return GUARD + EMPTY;
     case PARAM: return env[param(node)];
     case HD: return head(d, operand(d, env, d->node[place(node, 0)]));
     case TL: return tail(operand(d, env, d->node[place(node, 0)]));
@@ -167,7 +178,7 @@ static uint32_t pass_function(const struct decoded *d, unsigned g)
             env[last] = lowest + digit;
             outcome = eval(d, env, body);
             if (outcome != UNDECIDED) {
-                cell[digit] = outcome;
+                cell[digit] = in_cell(outcome);
                 stored++;
             }
         }
@@ -214,6 +225,7 @@ static void decode(struct decoded *d, unsigned at)
     case 0x00: node = CONSTANT | FALSE_ << PLACES; break;
     case 0x01: node = CONSTANT | TRUE_ << PLACES; break;
     case 0x02: node = CONSTANT | EMPTY << PLACES; break;
+    case 0x03: node = EMPTY_GUARD; break;
     case 0x10: case 0x11: case 0x12: case 0x13: node = PARAM | (byte - 0x10) << SMALL; break;
     case 0x20: node = unary(HD, HD_PARAM, d->node[end]), operands = 1; break;
     case 0x21: node = unary(TL, TL_PARAM, d->node[end]), operands = 1; break;
@@ -235,23 +247,22 @@ static void decode(struct decoded *d, unsigned at)
 static void decode_function(struct decoded *d, unsigned g)
 {
     const struct function *f = &d->rule.function[g];
-    const unsigned list = is_list(f->kinds, 4);
-    const uint64_t least = list ? HEAD : FALSE_, most = list ? EMPTY + d->rule.n : TAIL;
+    const unsigned result = f->kind[RESULT];
+    const uint64_t least = result ? HEAD : FALSE_, most = result ? EMPTY + d->rule.n[result - 1] : TAIL;
     d->called[g].outcomes = f->first | least << 32 | most << 48;
+    d->called[g].guard = result == GUARD_LIST ? GUARD : 0;
     d->called[g].param[0] = (struct kind){1, 0};
-    for (unsigned p = 0; p < f->params; p++) {
-        const unsigned of_list = is_list(f->kinds, p);
-        d->called[g].param[p] = (struct kind){radix(&d->rule, of_list), of_list ? EMPTY : FALSE_};
-    }
+    for (unsigned p = 0; p < f->params; p++)
+        d->called[g].param[p] = (struct kind){radix(&d->rule, f->kind[p]), lowest(f->kind[p])};
     for (unsigned at = f->end; at-- > f->start;)
         decode(d, at);
 }
 
-uint32_t decoded_evaluate(const uint8_t *program, size_t program_len, const uint8_t *trace, size_t trace_len,
-                          uint64_t n, uint16_t *table, size_t table_len, uint64_t answer[3])
+static uint32_t evaluate(const uint8_t *program, size_t program_len, const struct traces *t, uint16_t *table,
+                         size_t table_len, uint64_t answer[3])
 {
     struct decoded d;
-    uint32_t number = begin(&d.rule, program, program_len, trace, trace_len, n, table, table_len);
+    uint32_t number = begin(&d.rule, program, program_len, t, table, table_len);
     if (number)
         return number;
     for (unsigned g = 0; g < d.rule.functions; g++)
@@ -260,8 +271,23 @@ uint32_t decoded_evaluate(const uint8_t *program, size_t program_len, const uint
     return 0;
 }
 
+uint32_t decoded_evaluate(const uint8_t *program, size_t program_len, const uint8_t *trace, size_t trace_len,
+                          uint64_t n, uint16_t *table, size_t table_len, uint64_t answer[3])
+{
+    const struct traces t = {1, {trace, NULL}, {trace_len, 0}, {n, 0}};
+    return evaluate(program, program_len, &t, table, table_len, answer);
+}
+
+uint32_t decoded_evaluate_two(const uint8_t *program, size_t program_len, const uint8_t *ram, size_t ram_len,
+                              uint64_t n, const uint8_t *guard, size_t guard_len, uint64_t m, uint16_t *table,
+                              size_t table_len, uint64_t answer[3])
+{
+    const struct traces t = {2, {ram, guard}, {ram_len, guard_len}, {n, m}};
+    return evaluate(program, program_len, &t, table, table_len, answer);
+}
+
 uint32_t decoded_check_record(const uint8_t *bytes, size_t bytes_len, uint16_t *table, size_t table_len,
                               uint64_t answer[1])
 {
-    return check_record_by(decoded_evaluate, bytes, bytes_len, table, table_len, answer);
+    return check_record_by(evaluate, bytes, bytes_len, table, table_len, answer);
 }

@@ -4,10 +4,14 @@
  */
 #include "common.h"
 
-/* A cell that holds no outcome of its function's kind counts as undecided. */
-static uint16_t held(const struct rule *r, unsigned list, uint16_t cell)
+/* The outcome in a cell. A cell that holds no outcome of its function's kind counts as undecided. */
+static uint16_t held(const struct rule *r, unsigned kind, uint16_t cell)
 {
-    return list ? (cell >= HEAD && cell <= EMPTY + r->n ? cell : UNDECIDED) : (cell <= TAIL ? cell : UNDECIDED);
+    if (kind == BOOL)
+        return cell <= TAIL ? cell : UNDECIDED;
+    if (cell < HEAD || cell > EMPTY + r->n[kind - 1])
+        return UNDECIDED;
+    return cell >= EMPTY ? cell - EMPTY + lowest(kind) : cell;
 }
 
 static uint16_t eval(const struct rule *r, const uint16_t *env, unsigned at);
@@ -20,10 +24,10 @@ static uint16_t call(const struct rule *r, const uint16_t *env, unsigned at, uns
         uint16_t value = eval(r, env, at);
         if (value == UNDECIDED || value == HEAD || value == TAIL)
             return value;
-        index = is_list(f->kinds, i) ? index * (r->n + 1) + (value - EMPTY) : index * 2 + (value - FALSE_);
+        index = index * radix(r, f->kind[i]) + (value - lowest(f->kind[i]));
         at = r->ends[at];
     }
-    return held(r, is_list(f->kinds, 4), r->table[f->first + index]);
+    return held(r, f->kind[RESULT], r->table[f->first + index]);
 }
 
 /* The outcome of the expression at a place, with calls looked up in the table. */
@@ -31,23 +35,26 @@ static uint16_t eval(const struct rule *r, const uint16_t *env, unsigned at)
 {
     uint8_t byte = r->code[at];
     uint16_t v;
+    unsigned guard;
     switch (byte) {
     case 0x00: return FALSE_;
     case 0x01: return TRUE_;
     case 0x02: return EMPTY;
+    case 0x03: return GUARD + EMPTY;
     case 0x10: case 0x11: case 0x12: case 0x13: return env[byte - 0x10];
     case 0x20:
         v = eval(r, env, at + 1);
-        if (v <= EMPTY)
+        if (in_cell(v) <= EMPTY)
             return v < EMPTY ? v : HEAD;
-        v = r->n - (v - EMPTY);
-        return r->trace[v / 8] >> v % 8 & 1 ? TRUE_ : FALSE_;
+        guard = v >= GUARD;
+        v = r->n[guard] - (in_cell(v) - EMPTY);
+        return r->trace[guard][v / 8] >> v % 8 & 1 ? TRUE_ : FALSE_;
     case 0x21:
         v = eval(r, env, at + 1);
-        return v < EMPTY ? v : v == EMPTY ? TAIL : v - 1;
+        return v < EMPTY ? v : in_cell(v) == EMPTY ? TAIL : v - 1;
     case 0x22:
         v = eval(r, env, at + 1);
-        return v < EMPTY ? v : v == EMPTY ? TRUE_ : FALSE_;
+        return v < EMPTY ? v : in_cell(v) == EMPTY ? TRUE_ : FALSE_;
     case 0x23:
         v = eval(r, env, at + 1);
         at = r->ends[at + 1];
@@ -60,8 +67,8 @@ static uint16_t eval(const struct rule *r, const uint16_t *env, unsigned at)
 static void values(const struct rule *r, const struct function *f, uint32_t index, uint16_t env[4])
 {
     for (unsigned p = f->params; p-- > 0;) {
-        unsigned list = is_list(f->kinds, p), values = radix(r, list);
-        env[p] = index % values + (list ? EMPTY : FALSE_);
+        unsigned values = radix(r, f->kind[p]);
+        env[p] = index % values + lowest(f->kind[p]);
         index /= values;
     }
 }
@@ -74,12 +81,12 @@ static uint32_t pass(const struct rule *r)
         const struct function *f = &r->function[g];
         for (uint32_t i = 0; i < f->cells; i++) {
             uint16_t env[4] = {0, 0, 0, 0}, outcome;
-            if (held(r, is_list(f->kinds, 4), r->table[f->first + i]) != UNDECIDED)
+            if (held(r, f->kind[RESULT], r->table[f->first + i]) != UNDECIDED)
                 continue;
             values(r, f, i, env);
             outcome = eval(r, env, f->start);
             if (outcome != UNDECIDED) {
-                r->table[f->first + i] = outcome;
+                r->table[f->first + i] = in_cell(outcome);
                 stored++;
             }
         }
@@ -102,11 +109,11 @@ static void find_ends(struct rule *r)
     }
 }
 
-uint32_t plain_evaluate(const uint8_t *program, size_t program_len, const uint8_t *trace, size_t trace_len, uint64_t n,
-                        uint16_t *table, size_t table_len, uint64_t answer[3])
+static uint32_t evaluate(const uint8_t *program, size_t program_len, const struct traces *t, uint16_t *table,
+                         size_t table_len, uint64_t answer[3])
 {
     struct rule r;
-    uint32_t number = begin(&r, program, program_len, trace, trace_len, n, table, table_len);
+    uint32_t number = begin(&r, program, program_len, t, table, table_len);
     if (number)
         return number;
     find_ends(&r);
@@ -114,8 +121,23 @@ uint32_t plain_evaluate(const uint8_t *program, size_t program_len, const uint8_
     return 0;
 }
 
+uint32_t plain_evaluate(const uint8_t *program, size_t program_len, const uint8_t *trace, size_t trace_len, uint64_t n,
+                        uint16_t *table, size_t table_len, uint64_t answer[3])
+{
+    const struct traces t = {1, {trace, NULL}, {trace_len, 0}, {n, 0}};
+    return evaluate(program, program_len, &t, table, table_len, answer);
+}
+
+uint32_t plain_evaluate_two(const uint8_t *program, size_t program_len, const uint8_t *ram, size_t ram_len, uint64_t n,
+                            const uint8_t *guard, size_t guard_len, uint64_t m, uint16_t *table, size_t table_len,
+                            uint64_t answer[3])
+{
+    const struct traces t = {2, {ram, guard}, {ram_len, guard_len}, {n, m}};
+    return evaluate(program, program_len, &t, table, table_len, answer);
+}
+
 uint32_t plain_check_record(const uint8_t *bytes, size_t bytes_len, uint16_t *table, size_t table_len,
                             uint64_t answer[1])
 {
-    return check_record_by(plain_evaluate, bytes, bytes_len, table, table_len, answer);
+    return check_record_by(evaluate, bytes, bytes_len, table, table_len, answer);
 }

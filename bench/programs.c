@@ -23,12 +23,13 @@ unsigned random_below(uint32_t *seed, unsigned below)
     return (*seed >> 16) % below;
 }
 
-/* What is being written: the next place, what choices are taken from, and the functions of the program. */
+/* What is being written: the next place, what choices are taken from, and the functions of the program: the number of
+ * their parameters, and a bit for each that is a list, and that is one of the guard; at 4 for the result. */
 struct writer {
     uint8_t *next;
     uint32_t seed;
     unsigned functions, own;
-    uint8_t params[32], kinds[32];
+    uint8_t params[32], kinds[32], guards[32];
 };
 
 static unsigned choose(struct writer *w, unsigned below) { return random_below(&w->seed, below); }
@@ -40,6 +41,8 @@ static void header(struct writer *w, unsigned g, unsigned length)
 {
     *w->next++ = w->params[g];
     *w->next++ = w->kinds[g];
+    if (w->params[0] == 2) /* main's: over two contacts */
+        *w->next++ = w->guards[g];
     *w->next++ = length % 256;
     *w->next++ = length / 256;
 }
@@ -66,7 +69,7 @@ struct bytes long_body(void)
 {
     static const uint8_t front[] = {0x23, 0x22, 0x10, 0x22, 0x10, 0x23, 0x22, 0x21, 0x10, 0x80, 0x21, 0x10, 0x23};
     uint8_t *program = room(1029);
-    struct writer w = {program + 1, 0, 1, 0, {1}, {1}};
+    struct writer w = {program + 1, 0, 1, 0, {1}, {1}, {0}};
     unsigned leaf = 0;
     program[0] = 1;
     header(&w, 0, 1024);
@@ -82,7 +85,7 @@ struct bytes long_body(void)
 struct bytes deep(void)
 {
     uint8_t *program = room(69);
-    struct writer w = {program + 1, 0, 1, 0, {1}, {1}};
+    struct writer w = {program + 1, 0, 1, 0, {1}, {1}, {0}};
     program[0] = 1;
     header(&w, 0, 64);
     memset(w.next, 0x21, 63);
@@ -131,7 +134,7 @@ static void any_kinds(struct writer *w, unsigned g)
 struct bytes any_program(unsigned size, unsigned functions)
 {
     uint8_t *program = room(size);
-    struct writer w = {program + 1, size, functions, 0, {1}, {1}};
+    struct writer w = {program + 1, size, functions, 0, {1}, {1}, {0}};
     program[0] = functions;
     for (unsigned g = 1; g < functions; g++)
         any_kinds(&w, g);
@@ -146,55 +149,76 @@ struct bytes any_program(unsigned size, unsigned functions)
 
 /* ---- At random */
 
-/* A parameter of the kind where there is one, and now and then a constant. */
-static void value(struct writer *w, unsigned list)
+/* What may be demanded: a kind, or a list of either contact. */
+enum { BOOL, RAM_LIST, GUARD_LIST, EITHER };
+
+/* The kind of a parameter, or at 4 that of the result. */
+static unsigned kind_of(const struct writer *w, unsigned g, unsigned i)
 {
-    unsigned from = choose(w, 4), constant = list ? 0x02 : choose(w, 2);
+    return (w->kinds[g] >> i & 1) + (w->guards[g] >> i & 1);
+}
+
+static int allows(unsigned demand, unsigned kind) { return demand == EITHER ? kind != BOOL : kind == demand; }
+
+/* A parameter that is demanded where there is one, and now and then a constant. Main has a list of each contact. */
+static void value(struct writer *w, unsigned demand)
+{
+    unsigned from = choose(w, 4), constant = choose(w, w->params[0]);
+    if (demand != EITHER)
+        constant = demand == BOOL ? choose(w, 2) : demand - RAM_LIST;
     for (unsigned p = from; p < from + 4; p++)
-        if (p % 4 < w->params[w->own] && (w->kinds[w->own] >> p % 4 & 1u) == list && choose(w, 8)) {
+        if (p % 4 < w->params[w->own] && allows(demand, kind_of(w, w->own, p % 4)) && choose(w, 8)) {
             *w->next++ = 0x10 + p % 4;
             return;
         }
-    *w->next++ = constant;
+    *w->next++ = demand == BOOL ? constant : 0x02 + constant;
 }
 
 /* An expression that is at most so deep: one operand of each node goes on, the others are short. A body of depth 64 has
  * at most 1,009 bytes. */
-static void nested(struct writer *w, unsigned list, unsigned depth)
+static void nested(struct writer *w, unsigned demand, unsigned depth)
 {
     unsigned g = choose(w, w->functions), how = choose(w, 8), may_stop = depth < 8;
-    unsigned operands = 3, kinds = list ? 6 : 0, on;
+    unsigned operands = 3, demands[4] = {BOOL, demand, demand}, on;
     if (depth == 1 || (how == 0 && may_stop)) {
-        value(w, list);
+        value(w, demand);
         return;
     }
-    if (how < 4 && (w->kinds[g] >> 4 & 1u) == list && (w->params[g] || may_stop)) {
+    if (how < 4 && allows(demand, kind_of(w, g, 4)) && (w->params[g] || may_stop)) {
         *w->next++ = 0x80 + g;
-        operands = w->params[g], kinds = w->kinds[g];
+        operands = w->params[g];
+        for (unsigned i = 0; i < operands; i++)
+            demands[i] = kind_of(w, g, i);
     } else if (how < 6) {
-        *w->next++ = list ? 0x21 : choose(w, 2) ? 0x20 : 0x22;
-        operands = 1, kinds = 1;
+        *w->next++ = demand != BOOL ? 0x21 : choose(w, 2) ? 0x20 : 0x22;
+        operands = 1, demands[0] = demand == BOOL ? EITHER : demand;
     } else {
         *w->next++ = 0x23;
     }
     on = choose(w, 4) % (operands + !operands);
     for (unsigned i = 0; i < operands; i++)
-        nested(w, kinds >> i & 1, i == on ? depth - 1 : depth > 2 ? 1 + choose(w, 2) : 1);
+        nested(w, demands[i], i == on ? depth - 1 : depth > 2 ? 1 + choose(w, 2) : 1);
 }
 
-struct bytes random_program(uint32_t *seed, uint8_t out[MOST_RANDOM])
+struct bytes random_program(uint32_t *seed, unsigned contacts, uint8_t out[MOST_RANDOM])
 {
-    struct writer w = {out + 1, *seed, 0, 0, {1}, {1}};
-    w.functions = out[0] = 1 + choose(&w, 6);
-    for (unsigned g = 1; g < w.functions; g++)
+    const size_t head = contacts == 2 ? 5 : 4;
+    struct writer w = {out + 1, *seed, 0, 0, {1}, {1}, {0}};
+    if (contacts == 2)
+        w.params[0] = 2, w.kinds[0] = 3, w.guards[0] = 2;
+    w.functions = 1 + choose(&w, 6);
+    out[0] = contacts == 2 ? 0x80 + w.functions : w.functions;
+    for (unsigned g = 1; g < w.functions; g++) {
         any_kinds(&w, g);
+        w.guards[g] = contacts == 2 ? w.kinds[g] & choose(&w, 32) : 0;
+    }
     for (; w.own < w.functions; w.own++) {
         uint8_t *start = w.next, *end;
-        w.next += 4;
-        nested(&w, w.kinds[w.own] >> 4 & 1, choose(&w, 4) ? 1 + choose(&w, 8) : 64);
+        w.next += head;
+        nested(&w, kind_of(&w, w.own, 4), choose(&w, 4) ? 1 + choose(&w, 8) : 64);
         end = w.next;
         w.next = start;
-        header(&w, w.own, end - start - 4);
+        header(&w, w.own, end - start - head);
         w.next = end;
     }
     *seed = w.seed;

@@ -33,6 +33,11 @@ static const uint8_t bools[] = {
     4, 1, 19, 0, 0x23, 0x22, 0x10, 0x00, 0x23, 0x81, 0x11, 0x12, 0x13, 0x20, 0x10, 0x01,
     0x82, 0x21, 0x10, 0x12, 0x13, 0x20, 0x10};
 
+/* Over two contacts: the ram may not move while the guard is open.
+ * main(r, g) = if null r then True else if hd r then (if hd g then main(tl r, tl g) else False) else main(tl r, tl g) */
+static const uint8_t press[] = {0x81, 2, 3, 2, 21, 0, 0x23, 0x22, 0x10, 0x01, 0x23, 0x20, 0x10, 0x23, 0x20, 0x11, 0x80,
+                                0x21, 0x10, 0x21, 0x11, 0x00, 0x80, 0x21, 0x10, 0x21, 0x11};
+
 /* ---- Traces, records, archives */
 
 /* Of 4,095 samples each. */
@@ -124,6 +129,13 @@ static struct workload evaluate(const char *name, struct bytes program, const ui
     return (struct workload){name, EVALUATE, PER_CELL, n, 2, {program, {trace, (n + 7) / 8}}};
 }
 
+static struct workload evaluate_two(const char *name, struct bytes program, const uint8_t *ram, const uint8_t *guard,
+                                    unsigned n)
+{
+    const size_t len = (n + 7) / 8;
+    return (struct workload){name, EVALUATE, PER_CELL, n, 3, {program, {ram, len}, {guard, len}}};
+}
+
 static struct workload walk(const char *name, struct bytes archive)
 {
     return (struct workload){name, WALK, PER_BYTE, 0, 1, {archive}};
@@ -162,10 +174,11 @@ void build_workloads(struct workload workload[WORKLOADS], uint16_t *table)
     workload[2] = evaluate("ping-pong of two functions, n = 4,095", BYTES(ping_pong), ones, 4095);
     workload[3] = evaluate("four Bools; a list and three, n = 4,095", BYTES(bools), mixed, 4095);
     workload[4] = evaluate("a body of 1,024 bytes, n = 4,095", body, mixed, 4095);
-    workload[5] = evaluate("row A, n = 3", BYTES(row_a), trace_a, 3);
-    workload[5].unit = PER_CALL;
-    workload[6] = walk("walk and check an archive of 32,768 bytes", full_archive(listed, COUNT(listed), table));
-    workload[7] = walk("walk and check an archive of small records", archive(small, COUNT(small), table));
-    workload[8] = check;
-    workload[9] = read;
+    workload[5] = evaluate_two("two contacts together, n = m = 4,000", BYTES(press), mixed, ones, 4000);
+    workload[6] = evaluate("row A, n = 3", BYTES(row_a), trace_a, 3);
+    workload[6].unit = PER_CALL;
+    workload[7] = walk("walk and check an archive of 32,768 bytes", full_archive(listed, COUNT(listed), table));
+    workload[8] = walk("walk and check an archive of small records", archive(small, COUNT(small), table));
+    workload[9] = check;
+    workload[10] = read;
 }

@@ -11,7 +11,7 @@ enum {
 };
 
 enum sort {
-    EVALUATE, /* item 0 is a program, item 1 a trace of n samples */
+    EVALUATE, /* item 0 is a program, item 1 a trace of n samples; over two contacts item 2 is the guard's, of n too */
     WALK,     /* item 0 is an archive: each record is read and checked, from the last */
     CHECK,    /* the items are programs */
     READ      /* the items are records, each by itself */
@@ -29,7 +29,7 @@ struct workload {
     struct bytes item[MOST_ITEMS];
 };
 
-enum { WORKLOADS = 10 };
+enum { WORKLOADS = 11 };
 
 /* Fills in the workloads. They are the same in every run. The table is used to write records. */
 void build_workloads(struct workload workload[WORKLOADS], uint16_t *table);

@@ -1,12 +1,15 @@
 /* A small gateway: what a daemon in C does with the library, step by step.
  *
- * Samples of a contact go into a ring, and the trace is taken from it. Each rule is checked, evaluated on the trace
- * and recorded, and the record is appended to an archive. Then the archive is read back from its file and walked
- * from its end, and each record is checked. Every refusal is told in words with its number.
+ * It watches a press with two contacts: a sample of the ram is 1 while the ram moves, one of the guard is 1 while the
+ * guard is closed. Samples go into a ring for each contact, and the traces are taken from the rings. Each rule is
+ * checked, evaluated on the ram's trace or on both, as it is over one contact or two, and recorded, and the record is
+ * appended to an archive. Then the archive is read back from its file and walked from its end, and each record is
+ * checked. Every refusal is told in words with its number.
  *
  * Build:  make lib && cc -std=c99 -Ibuild/include examples/daemon.c -Lbuild/lib -lsikafondza -o daemon
  * Run:    ./daemon [-i] [-a ARCHIVE] [RULE ..]          (`make example` builds it and runs it with no arguments)
- *   -i          samples come from standard input, a character 0 or 1 each, white space apart; else from SAMPLES
+ *   -i          samples come from standard input, two characters 0 or 1 for each moment, the ram's and the guard's,
+ *               white space apart; else from SAMPLES
  *   -a ARCHIVE  the file that records are appended to; else a temporary one with OLDER in it, removed at the end
  *   RULE        a rule in hexadecimal, such as "01 01 01 02 00 22 10"; with none, those of RULES
  * Exit status: 0; 1 for a wrong argument or sample, or a file that cannot be opened, read or written; 2 if a record
@@ -21,20 +24,33 @@
 #include "sikafondza.h"
 
 enum {
-    SLOTS = 9,                     /* samples that the ring holds */
-    TRACE = (SLOTS + 7) / 8,       /* bytes of the longest trace */
-    CELLS = 16384,                 /* cells of the table: a rule that needs more is refused */
-    PROGRAM = 4096,                /* bytes of the longest rule */
-    RECORD = PROGRAM + TRACE + 13, /* bytes of the longest record that is written */
-    ARCHIVE = 1 << 20              /* bytes of the longest archive that this daemon reads back */
+    SLOTS = 9,                         /* samples that a ring holds */
+    TRACE = (SLOTS + 7) / 8,           /* bytes of the longest trace */
+    CELLS = 16384,                     /* cells of the table: a rule that needs more is refused */
+    PROGRAM = 4096,                    /* bytes of the longest rule */
+    RECORD = PROGRAM + 2 * TRACE + 15, /* bytes of the longest record that is written, on both traces */
+    ARCHIVE = 1 << 20                  /* bytes of the longest archive that this daemon reads back */
 };
 
-static const char SAMPLES[] = "001111111111";
+/* The ram's and the guard's sample of each moment: in the last but one the guard is open, and the ram moves. */
+static const char SAMPLES[] = "00 01 11 11 11 11 11 11 11 11 10 11";
 static const struct { const char *name, *hex; } RULES[] = {
     {"every sample is 1", "01 01 01 0B 00 23 22 10 01 23 20 10 80 21 10 00"},
     {"not every sample is 1", "02 01 01 05 00 23 81 10 00 01 01 01 0B 00 23 22 10 01 23 20 10 81 21 10 00"},
     {"every sample is 1, but tl forgotten", "01 01 01 0A 00 23 22 10 01 23 20 10 80 10 00"},
-    {"a list with a sample in front", "01 01 01 04 00 22 24 01 10"}};
+    {"a list with a sample in front", "01 01 01 04 00 22 24 01 10"},
+    /* Over two contacts; main has the ram's list as parameter 0 and the guard's as parameter 1:
+     *   81                one function, and 80 more for two contacts
+     *   02 03 02          main's header: two parameters; bits 0 and 1: both are lists; bit 1: the second is the guard's
+     *   15 00             its body has 21 bytes:
+     *   23 22 10 01       if the ram's list is empty (null), then True
+     *   23 20 10          else if the ram moves in the oldest sample (hd),
+     *   23 20 11            then if the guard is closed in the oldest sample,
+     *   80 21 10 21 11        then main on what follows the two (tl)
+     *   00                    else False
+     *   80 21 10 21 11      else main on what follows the two */
+    {"the ram may not move while the guard is open",
+     "81 02 03 02 15 00 23 22 10 01 23 20 10 23 20 11 80 21 10 21 11 00 80 21 10 21 11"}};
 /* A record of format 1, such as older archives hold: the first rule on nine samples, with the label PRESS-07. */
 static const uint8_t OLDER[] = {0x01, 0x01, 0x01, 0x0B, 0x00, 0x23, 0x22, 0x10, 0x01, 0x23, 0x20, 0x10, 0x80,
                                 0x21, 0x10, 0x00, 0xFF, 0x01, 'P',  'R',  'E',  'S',  'S',  '-',  '0',  '7',
@@ -42,21 +58,21 @@ static const uint8_t OLDER[] = {0x01, 0x01, 0x01, 0x0B, 0x00, 0x23, 0x22, 0x10, 
 static const char *const VERDICTS[] = {"forever", "no", "yes", "head of empty", "tail of empty"};
 static const char *const REFUSALS[] = {
     [SIK_REFUSED_TRAILER_MISSING] = "too few bytes for a trailer",
-    [SIK_REFUSED_MARK_OR_FORMAT] = "not the end of a record of format 1 or 2",
+    [SIK_REFUSED_MARK_OR_FORMAT] = "not the end of a record of format 1, 2 or 3",
     [SIK_REFUSED_TRAILER_FIELDS] = "the lengths in the trailer do not fit",
     [SIK_REFUSED_VERDICT_OR_PASSES] = "no such verdict, or a pass count of 0",
     [SIK_REFUSED_PROGRAM_LENGTH] = "the rule is empty or too long",
-    [SIK_REFUSED_FUNCTION_COUNT] = "no functions or too many",
+    [SIK_REFUSED_FUNCTION_COUNT] = "no functions or too many, or a rule over another number of contacts",
     [SIK_REFUSED_HEADER_CUT] = "the header of a function is cut off",
-    [SIK_REFUSED_PARAMETER_KINDS] = "too many parameters, or a kind for an absent one",
+    [SIK_REFUSED_PARAMETER_KINDS] = "too many parameters, a kind for an absent one, or a guard's list where none is",
     [SIK_REFUSED_BODY_LENGTH] = "a body is empty, too long or cut off",
     [SIK_REFUSED_BYTES_AFTER_FUNCTIONS] = "bytes after the last function",
-    [SIK_REFUSED_MAIN_KIND] = "function 0 does not make a Bool of one list",
+    [SIK_REFUSED_MAIN_KIND] = "function 0 does not make a Bool of one list, or of one list of each contact",
     [SIK_REFUSED_BODY_ENDS] = "an expression is cut off",
     [SIK_REFUSED_TOO_DEEP] = "an expression is nested too deep",
     [SIK_REFUSED_LIST_CONSTRUCTOR] = "a rule cannot construct lists",
     [SIK_REFUSED_UNKNOWN_BYTE] = "an unknown byte, or an absent parameter or function",
-    [SIK_REFUSED_WRONG_KIND] = "a Bool where a list is due, or a list for a Bool",
+    [SIK_REFUSED_WRONG_KIND] = "a Bool where a list is due, a list for a Bool, or a list of the other contact",
     [SIK_REFUSED_BYTES_AFTER_EXPRESSION] = "bytes after an expression",
     [SIK_REFUSED_RING_LENGTH] = "the ring has no slots or too many",
     [SIK_REFUSED_RING_STATE] = "the state does not fit the ring",
@@ -65,9 +81,16 @@ static const char *const REFUSALS[] = {
     [SIK_REFUSED_OUTPUT_SHORT] = "the output is too short",
     [SIK_REFUSED_PADDING_SET] = "a bit above the last sample is set"};
 
+/* A contact: its ring with the state, and the trace that is taken from the ring. */
+struct contact {
+    uint8_t slots[SLOTS], trace[TRACE];
+    uint64_t state[SIK_RING_SIZE], samples /* in the trace */;
+};
+
 /* What is lent to the library. */
-static uint8_t slots[SLOTS], trace[TRACE], program[PROGRAM + 1], record[RECORD], archived[ARCHIVE];
-static uint64_t state[SIK_RING_SIZE], samples /* in the trace */, parts[SIK_PARTS_SIZE];
+static struct contact ram, guard;
+static uint8_t program[PROGRAM + 1], record[RECORD], archived[ARCHIVE];
+static uint64_t parts[SIK_PARTS_SIZE];
 static size_t archived_len;
 static uint16_t table[CELLS];
 
@@ -86,29 +109,53 @@ static int fail(const char *what, const char *why)
     return 1;
 }
 
-/* A sample comes in: the ring takes it, and the trace is taken from the ring. */
-static void add_sample(uint8_t sample)
+/* A contact's ring takes a sample, and the trace is taken from the ring. */
+static uint32_t add_sample(struct contact *c, int sample)
 {
-    const char *lost = state[SIK_RING_COUNT] == SLOTS ? ", the oldest is lost" : "";
-    printf("sample %d: ", sample);
-    if (refused(sik_ring_add(slots, SLOTS, state, sample)) ||
-        refused(sik_ring_trace(slots, SLOTS, state, trace, TRACE, &samples)))
+    const uint32_t number = sik_ring_add(c->slots, SLOTS, c->state, (uint8_t)sample);
+    return number != 0 ? number : sik_ring_trace(c->slots, SLOTS, c->state, c->trace, TRACE, &c->samples);
+}
+
+static void tell_trace(const struct contact *c)
+{
+    for (uint64_t i = 0; i < c->samples; i++)
+        putchar(c->trace[i / 8] >> i % 8 & 1 ? '1' : '0');
+}
+
+/* The samples of a moment come in. */
+static void add_moment(int of_ram, int of_guard)
+{
+    const char *lost = ram.state[SIK_RING_COUNT] == SLOTS ? ", the oldest are lost" : "";
+    printf("samples %d %d: ", of_ram, of_guard);
+    if (refused(add_sample(&ram, of_ram)) || refused(add_sample(&guard, of_guard)))
         return;
-    printf("the ring holds ");
-    for (uint64_t i = 0; i < samples; i++)
-        putchar(trace[i / 8] >> i % 8 & 1 ? '1' : '0');
+    printf("the rings hold ");
+    tell_trace(&ram);
+    printf(" and ");
+    tell_trace(&guard);
     puts(lost);
 }
 
-static int add_input(void)
+/* The next character of a text, or of standard input where there is none, that is no white space; or EOF. */
+static int next_sample(const char **text)
 {
     int c;
-    while ((c = getchar()) != EOF)
-        if (c == '0' || c == '1')
-            add_sample(c == '1');
-        else if (!isspace(c))
-            return fail("standard input", "a sample is a character 0 or 1");
-    return ferror(stdin) ? fail("standard input cannot be read", strerror(errno)) : 0;
+    do
+        c = *text == NULL ? getchar() : **text == '\0' ? EOF : *(*text)++;
+    while (isspace(c));
+    return c;
+}
+
+static int add_samples(const char *text)
+{
+    int of_ram, of_guard;
+    while ((of_ram = next_sample(&text)) != EOF) {
+        of_guard = next_sample(&text);
+        if ((of_ram != '0' && of_ram != '1') || (of_guard != '0' && of_guard != '1'))
+            return fail("standard input", "a moment has two samples, each a character 0 or 1");
+        add_moment(of_ram == '1', of_guard == '1');
+    }
+    return text == NULL && ferror(stdin) ? fail("standard input cannot be read", strerror(errno)) : 0;
 }
 
 /* Puts a rule's bytes into program; answers how many, or -1 if the text is not hexadecimal. Bytes past the room are
@@ -136,20 +183,41 @@ static int append(const uint8_t *bytes, size_t len, FILE *archive)
     return 0;
 }
 
+static size_t trace_len(const struct contact *c) { return (size_t)(c->samples + 7) / 8; }
+
+/* Evaluates the rule in program on the ram's trace, or on both. */
+static uint32_t evaluate(size_t len, int two, uint64_t answer[SIK_EVALUATED_SIZE])
+{
+    if (two)
+        return sik_evaluate_two(program, len, ram.trace, trace_len(&ram), ram.samples, guard.trace, trace_len(&guard),
+                                guard.samples, table, CELLS, answer);
+    return sik_evaluate(program, len, ram.trace, trace_len(&ram), ram.samples, table, CELLS, answer);
+}
+
+/* The same, and puts a record of it into record. */
+static uint32_t write_record(size_t len, int two, uint64_t answer[SIK_WRITTEN_SIZE])
+{
+    if (two)
+        return sik_write_record_two(program, len, ram.trace, trace_len(&ram), ram.samples, guard.trace,
+                                    trace_len(&guard), guard.samples, table, CELLS, record, RECORD, answer);
+    return sik_write_record(program, len, ram.trace, trace_len(&ram), ram.samples, table, CELLS, record, RECORD, answer);
+}
+
 /* Checks, evaluates and records a rule. A refused rule leaves no record, and is no failure of the daemon. */
 static int run_rule(const char *name, const char *hex, FILE *archive)
 {
-    const size_t len = (size_t)read_hex(hex), trace_len = (size_t)(samples + 7) / 8;
+    const size_t len = (size_t)read_hex(hex);
+    const int two = len > 0 && program[0] >= 0x80; /* over two contacts, by the first byte */
     uint64_t evaluated[SIK_EVALUATED_SIZE], written[SIK_WRITTEN_SIZE];
     printf("rule '%s': ", name);
     if (refused(sik_check_program(program, len)))
         return 0;
-    printf("accepted, bytes %zu\n  evaluated: ", len);
-    if (refused(sik_evaluate(program, len, trace, trace_len, samples, table, CELLS, evaluated)))
+    printf("accepted, bytes %zu, contacts %d\n  evaluated: ", len, two ? 2 : 1);
+    if (refused(evaluate(len, two, evaluated)))
         return 0;
     printf("%s, passes %" PRIu64 "\n  recorded: ", VERDICTS[evaluated[SIK_EVALUATED_VERDICT]],
            evaluated[SIK_EVALUATED_PASSES]);
-    if (refused(sik_write_record(program, len, trace, trace_len, samples, table, CELLS, record, RECORD, written)))
+    if (refused(write_record(len, two, written)))
         return 0;
     printf("bytes %" PRIu64 "\n", written[SIK_WRITTEN_LENGTH]);
     return append(record, (size_t)written[SIK_WRITTEN_LENGTH], archive);
@@ -174,6 +242,14 @@ static void tell_label(void)
         putchar(isprint(label[i]) ? label[i] : '.');
 }
 
+/* Tells the numbers of samples of the record that was read: the ram's, and in format 3 the guard's. */
+static void tell_samples(void)
+{
+    printf("samples %" PRIu64, parts[SIK_PARTS_SAMPLES]);
+    if (parts[SIK_PARTS_FORMAT] == 3)
+        printf(" and %" PRIu64, parts[SIK_PARTS_GUARD_SAMPLES]);
+}
+
 /* Walks the archive from its end and checks each record; answers 0 if all agree, else 2. A record that cannot be
  * read ends the walk, since nothing tells where the one before it ends. */
 static int walk(void)
@@ -187,8 +263,9 @@ static int walk(void)
             return 2;
         printf("bytes %" PRIu64 ", ", len - parts[SIK_PARTS_BEFORE]);
         tell_label();
-        printf(", samples %" PRIu64 ", %s, passes %" PRIu64 ": ", parts[SIK_PARTS_SAMPLES],
-               VERDICTS[parts[SIK_PARTS_VERDICT]], parts[SIK_PARTS_PASSES]);
+        printf(", ");
+        tell_samples();
+        printf(", %s, passes %" PRIu64 ": ", VERDICTS[parts[SIK_PARTS_VERDICT]], parts[SIK_PARTS_PASSES]);
         if (refused(sik_check_record(archived, len, table, CELLS, checked)))
             continue;
         puts(checked[SIK_CHECKED_AGREEMENT] == SIK_AGREES ? "agrees" : "differs");
@@ -223,10 +300,7 @@ int main(int argc, char **argv)
         return walk();
     }
 
-    if (input)
-        status = add_input();
-    for (const char *s = input ? "" : SAMPLES; *s != '\0'; s++)
-        add_sample(*s == '1');
+    status = add_samples(input ? NULL : SAMPLES);
     if (next == argc)
         for (size_t i = 0; i < sizeof RULES / sizeof *RULES && status == 0; i++)
             status = run_rule(RULES[i].name, RULES[i].hex, archive);

@@ -18,8 +18,8 @@
 #include <stddef.h>
 #include <stdint.h>
 
-/* The version of the library, as numbers and as a text such as "2.0.0". */
-#define SIK_VERSION_MAJOR 2
+/* The version of the library, as numbers and as a text such as "3.0.0". */
+#define SIK_VERSION_MAJOR 3
 #define SIK_VERSION_MINOR 0
 #define SIK_VERSION_PATCH 0
 #define SIK_VERSION \
@@ -48,33 +48,42 @@ enum {
  * 0x24 in that of function 1.
  */
 enum {
-    SIK_REFUSED_TRAILER_MISSING = 1,         /* fewer than eight bytes remain for a trailer */
-    SIK_REFUSED_MARK_OR_FORMAT = 2,          /* the mark is not 0x52 or the format is neither 1 nor 2 */
-    SIK_REFUSED_TRAILER_FIELDS = 3,          /* n is above 4,095, the second distance is not n / 8 rounded up plus 13 in
-                                                format 1 or plus 5 in format 2, the first is not larger than the
-                                                second, or the first exceeds the bytes before the trailer */
+    SIK_REFUSED_TRAILER_MISSING = 1,         /* fewer than eight bytes remain for a trailer, or fewer than ten where the
+                                                last two are 03 52 */
+    SIK_REFUSED_MARK_OR_FORMAT = 2,          /* the mark is not 0x52 or the format is none of 1 to 3 */
+    SIK_REFUSED_TRAILER_FIELDS = 3,          /* n, or in format 3 m, is above 4,095; the second distance is not n / 8
+                                                rounded up plus 13 in format 1, plus 5 in format 2, or in format 3 plus
+                                                m / 8 rounded up plus 5; the first is not larger than the second; or
+                                                the first exceeds the bytes before the trailer */
     SIK_REFUSED_VERDICT_OR_PASSES = 4,       /* the verdict byte is above 4 or the pass count is 0 */
     SIK_REFUSED_PROGRAM_LENGTH = 5,          /* the program is empty or longer than 4,096 bytes */
-    SIK_REFUSED_FUNCTION_COUNT = 6,          /* the function count is 0 or above 32 */
-    SIK_REFUSED_HEADER_CUT = 7,              /* fewer than four bytes remain for a header */
-    SIK_REFUSED_PARAMETER_KINDS = 8,         /* the parameter count is above 4, or a kind bit is set for an absent
-                                                parameter or among bits 5 to 7 */
+    SIK_REFUSED_FUNCTION_COUNT = 6,          /* the count byte is neither 1 to 32 nor 0x81 to 0xA0; or the program is over
+                                                one contact with two traces or in format 3, or over two with one trace or
+                                                in format 1 or 2 */
+    SIK_REFUSED_HEADER_CUT = 7,              /* fewer than four bytes remain for a header, over two contacts than five */
+    SIK_REFUSED_PARAMETER_KINDS = 8,         /* the parameter count is above 4; a kind bit is set for an absent parameter
+                                                or among bits 5 to 7; or a guard bit is set where no list is, or among
+                                                bits 5 to 7 */
     SIK_REFUSED_BODY_LENGTH = 9,             /* the body length is 0, above 1,024 or above what remains */
     SIK_REFUSED_BYTES_AFTER_FUNCTIONS = 10,  /* bytes remain after the last function */
-    SIK_REFUSED_MAIN_KIND = 11,              /* function 0 is not of main's kind: one list parameter, Bool result */
+    SIK_REFUSED_MAIN_KIND = 11,              /* function 0 is not of main's kind: one list parameter, over two contacts a
+                                                list of the ram and then one of the guard, and Bool result */
     SIK_REFUSED_BODY_ENDS = 12,              /* a body ends where a node is due */
     SIK_REFUSED_TOO_DEEP = 13,               /* a node would be the 65th in depth */
     SIK_REFUSED_LIST_CONSTRUCTOR = 14,       /* a byte is 0x24 */
-    SIK_REFUSED_UNKNOWN_BYTE = 15,           /* a byte is not in the table, or names an absent parameter or function */
-    SIK_REFUSED_WRONG_KIND = 16,             /* a node's kind is not the one its place demands */
+    SIK_REFUSED_UNKNOWN_BYTE = 15,           /* a byte is not in the table (0x03 is in it over two contacts only), or names an
+                                                absent parameter or function */
+    SIK_REFUSED_WRONG_KIND = 16,             /* a node's kind is not the one its place demands; a list of the other contact
+                                                is of another kind, but hd and null take either */
     SIK_REFUSED_BYTES_AFTER_EXPRESSION = 17, /* bytes remain in a body after its expression */
     SIK_REFUSED_RING_LENGTH = 18,            /* the ring slice is empty or longer than 4,095 */
     SIK_REFUSED_RING_STATE = 19,             /* the ring's next place is not below its length, or its count is above it */
-    SIK_REFUSED_TRACE_LENGTH = 20,           /* n is above 4,095, or the trace has not n / 8 rounded up bytes */
+    SIK_REFUSED_TRACE_LENGTH = 20,           /* n is above 4,095, or the trace has not n / 8 rounded up bytes; of two
+                                                traces either */
     SIK_REFUSED_TABLE_SHORT = 21,            /* the cells needed exceed the lent table or 16,777,216 */
     SIK_REFUSED_OUTPUT_SHORT = 22,           /* the output is shorter than what is to be written */
-    SIK_REFUSED_PADDING_SET = 23               /* a bit above the last sample is set, in the last byte of a trace; where n is
-                                                a multiple of 8 there is none */
+    SIK_REFUSED_PADDING_SET = 23             /* a bit above the last sample is set, in the last byte of a trace, of two
+                                                traces of either; where n is a multiple of 8 there is none */
 };
 
 /* The state of a ring; both numbers are 0 for a new ring. */
@@ -103,7 +112,9 @@ uint32_t sik_ring_add(uint8_t *slots, size_t slots_len, uint64_t state[SIK_RING_
 uint32_t sik_ring_trace(const uint8_t *slots, size_t slots_len, const uint64_t state[SIK_RING_SIZE], uint8_t *out,
                         size_t out_len, uint64_t samples[1]);
 
-/* Checks a rule program. Changes nothing.
+/* Checks a rule program of either sort: over one contact, or over two, such as the ram and the guard of a press. Its first
+ * byte tells the sort. The functions below take the sort that the traces or the record's format are for, and refuse the
+ * other by 6. Changes nothing.
  * Refusals: 5 to 17.
  */
 uint32_t sik_check_program(const uint8_t *program, size_t program_len);
@@ -115,7 +126,7 @@ enum {
     SIK_EVALUATED_SIZE = 2
 };
 
-/* Evaluates a rule program on a packed trace of n samples.
+/* Evaluates a rule program over one contact on a packed trace of n samples.
  *   program        the rule
  *   trace          n / 8 rounded up bytes, packed as above, bits above the last sample 0; sik_ring_trace writes such a trace
  *   table          where it works: one cell for each configuration of the program's functions, which is a function
@@ -129,6 +140,17 @@ enum {
 uint32_t sik_evaluate(const uint8_t *program, size_t program_len, const uint8_t *trace, size_t trace_len, uint64_t n,
                       uint16_t *table, size_t table_len, uint64_t answer[SIK_EVALUATED_SIZE]);
 
+/* Evaluates a rule program over two contacts on their packed traces, of n samples of the ram and of m samples of the guard.
+ *   program            the rule
+ *   ram, n, guard, m   as trace and n for sik_evaluate, for each contact by itself
+ *   table              as for sik_evaluate; a list of the ram has n + 1 values, one of the guard m + 1
+ *   answer             becomes the verdict and the pass count
+ * Refusals: 5 to 17, 20, 23, 21; 20 of either trace goes before 23 of either.
+ */
+uint32_t sik_evaluate_two(const uint8_t *program, size_t program_len, const uint8_t *ram, size_t ram_len, uint64_t n,
+                          const uint8_t *guard, size_t guard_len, uint64_t m, uint16_t *table, size_t table_len,
+                          uint64_t answer[SIK_EVALUATED_SIZE]);
+
 /* What writing a record answers. */
 enum {
     SIK_WRITTEN_LENGTH = 0,  /* the record's length */
@@ -139,7 +161,7 @@ enum {
 
 /* Evaluates as sik_evaluate does, and writes a record of it, of format 2, to the front of out: program, trace, verdict,
  * pass count, trailer (docs/FORMAT.md). The trace's bytes are written as they are. Bytes past the record keep their
- * content. To append to an archive, of records of either format, lend the bytes after its last.
+ * content. To append to an archive, of records of any format, lend the bytes after its last.
  *   program, trace, n, table   as for sik_evaluate
  *   out                        at least program_len + n / 8 rounded up + 13 bytes
  *   answer                     becomes the record's length, the verdict and the pass count
@@ -149,25 +171,40 @@ uint32_t sik_write_record(const uint8_t *program, size_t program_len, const uint
                           uint16_t *table, size_t table_len, uint8_t *out, size_t out_len,
                           uint64_t answer[SIK_WRITTEN_SIZE]);
 
+/* Evaluates as sik_evaluate_two does, and writes a record of it, of format 3, to the front of out: program, ram trace, guard
+ * trace, verdict, pass count, trailer. The rest is as for sik_write_record.
+ *   program, ram, n, guard, m, table   as for sik_evaluate_two
+ *   out                                at least program_len + n / 8 rounded up + m / 8 rounded up + 15 bytes
+ *   answer                             becomes the record's length, the verdict and the pass count
+ * Refusals: 5 to 17, 20, 23, 21, 22. On 22 too the table is as it was.
+ */
+uint32_t sik_write_record_two(const uint8_t *program, size_t program_len, const uint8_t *ram, size_t ram_len, uint64_t n,
+                              const uint8_t *guard, size_t guard_len, uint64_t m, uint16_t *table, size_t table_len,
+                              uint8_t *out, size_t out_len, uint64_t answer[SIK_WRITTEN_SIZE]);
+
 /* The parts of a record, as places and lengths in the bytes that it was read from. */
 enum {
     SIK_PARTS_PROGRAM_START = 0, /* the program's first byte */
     SIK_PARTS_PROGRAM_LENGTH = 1,
-    SIK_PARTS_TRACE_START = 2, /* the trace's first byte */
+    SIK_PARTS_TRACE_START = 2, /* the trace's first byte; in format 3 that of the ram's */
     SIK_PARTS_TRACE_LENGTH = 3,
-    SIK_PARTS_SAMPLES = 4,       /* n, the number of samples */
+    SIK_PARTS_SAMPLES = 4,       /* n, the number of its samples */
     SIK_PARTS_LABEL_START = 5,   /* the label's first byte; 0 where there is no label */
     SIK_PARTS_VERDICT = 6,       /* the stored verdict (SIK_FOREVER to SIK_TAIL) */
     SIK_PARTS_PASSES = 7,        /* the stored pass count */
     SIK_PARTS_BEFORE = 8,        /* how many bytes stand before the record: an archive is walked by reading those next */
-    SIK_PARTS_FORMAT = 9,        /* the record's format, 1 or 2 */
+    SIK_PARTS_FORMAT = 9,        /* the record's format, 1 to 3 */
     SIK_PARTS_LABEL_LENGTH = 10, /* 8, or 0 for no label */
-    SIK_PARTS_SIZE = 11
+    SIK_PARTS_GUARD_START = 11,  /* the guard trace's first byte; formats 1 and 2 have no guard trace, and 0 here and in
+                                    the next two */
+    SIK_PARTS_GUARD_LENGTH = 12,
+    SIK_PARTS_GUARD_SAMPLES = 13, /* m, the number of its samples */
+    SIK_PARTS_SIZE = 14
 };
 
 /* Reads the record that the bytes end in, from the last byte backwards; bytes before it do not matter. The stored
- * verdict is only read, not worked out again. A record of format 1 has a site label, eight zeros if none was set; a
- * record of format 2 has no label.
+ * verdict is only read, not worked out again. A record of format 1 has a site label, eight zeros if none was set; one
+ * of format 2 or 3 has no label. A record of format 3 holds a rule over two contacts and both traces.
  *   parts      becomes the record's parts
  * Refusals: 1 to 3, 23, 4 to 17.
  */
@@ -184,7 +221,7 @@ enum { SIK_DIFFERS = 0, SIK_AGREES = 1 };
 
 /* Checks the record that the bytes end in: works the verdict and the pass count out again and compares both.
  *   bytes      as for sik_read_record
- *   table      as for sik_evaluate, left with the cells worked out, also where the record differs
+ *   table      as for sik_evaluate and sik_evaluate_two, left with the cells worked out, also where the record differs
  *   answer     becomes the agreement
  * Refusals: 1 to 3, 23, 4 to 17, 21.
  */

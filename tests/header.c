@@ -1,7 +1,8 @@
 /* Checks that the header is clean in C99 and in C++: it may be included twice, its constants have the values of
  * document 01, its functions have the types written here and are found when linking. Each function is called
- * with no elements, and so with null pointers, which it must refuse. Then a record is written, read and checked, one
- * of format 1 is read and checked, and each answer is looked for at the place that the header names.
+ * with no elements, and so with null pointers, which it must refuse. Then a record over one contact and one over two are
+ * written, read and checked, one of format 1 is read and checked, and each answer is looked for at the place that the
+ * header names.
  *
  *   cc -std=c99 -pedantic-errors -Wall -Wextra -Werror -Iinclude tests/header.c libsikafondza.a
  *   c++ -x c++ -pedantic-errors -Wall -Wextra -Werror -Iinclude tests/header.c -x none libsikafondza.a
@@ -52,7 +53,10 @@ IS(SIK_REFUSED_PADDING_SET, 23);
 IS(SIK_RING_SIZE, 2);
 IS(SIK_EVALUATED_SIZE, 2);
 IS(SIK_WRITTEN_SIZE, 3);
-IS(SIK_PARTS_SIZE, 11);
+IS(SIK_PARTS_GUARD_START, 11);
+IS(SIK_PARTS_GUARD_LENGTH, 12);
+IS(SIK_PARTS_GUARD_SAMPLES, 13);
+IS(SIK_PARTS_SIZE, 14);
 IS(SIK_CHECKED_SIZE, 1);
 
 /* The address of each function, in a pointer of its type. */
@@ -62,21 +66,28 @@ static uint32_t (*const ring_trace)(const uint8_t *, size_t, const uint64_t *, u
 static uint32_t (*const check_program)(const uint8_t *, size_t) = &sik_check_program;
 static uint32_t (*const evaluate)(const uint8_t *, size_t, const uint8_t *, size_t, uint64_t, uint16_t *, size_t,
                                   uint64_t *) = &sik_evaluate;
+static uint32_t (*const evaluate_two)(const uint8_t *, size_t, const uint8_t *, size_t, uint64_t, const uint8_t *, size_t,
+                                      uint64_t, uint16_t *, size_t, uint64_t *) = &sik_evaluate_two;
 static uint32_t (*const write_record)(const uint8_t *, size_t, const uint8_t *, size_t, uint64_t, uint16_t *, size_t,
                                       uint8_t *, size_t, uint64_t *) = &sik_write_record;
+static uint32_t (*const write_record_two)(const uint8_t *, size_t, const uint8_t *, size_t, uint64_t, const uint8_t *,
+                                          size_t, uint64_t, uint16_t *, size_t, uint8_t *, size_t, uint64_t *) =
+    &sik_write_record_two;
 static uint32_t (*const read_record)(const uint8_t *, size_t, uint64_t *) = &sik_read_record;
 static uint32_t (*const check_record)(const uint8_t *, size_t, uint16_t *, size_t, uint64_t *) = &sik_check_record;
 
 /* No elements. */
 static int wrong_refusals(void)
 {
-    uint64_t state[SIK_RING_SIZE] = {0, 0}, numbers[SIK_PARTS_SIZE] = {0, 0, 0, 0, 0, 0, 0, 0, 0, 0, 0};
+    uint64_t state[SIK_RING_SIZE] = {0, 0}, numbers[SIK_PARTS_SIZE] = {0, 0, 0, 0, 0, 0, 0, 0, 0, 0, 0, 0, 0, 0};
     int wrong = 0;
     wrong += ring_add(NULL, 0, state, 1) != SIK_REFUSED_RING_LENGTH;
     wrong += ring_trace(NULL, 0, state, NULL, 0, numbers) != SIK_REFUSED_RING_LENGTH;
     wrong += check_program(NULL, 0) != SIK_REFUSED_PROGRAM_LENGTH;
     wrong += evaluate(NULL, 0, NULL, 0, 0, NULL, 0, numbers) != SIK_REFUSED_PROGRAM_LENGTH;
+    wrong += evaluate_two(NULL, 0, NULL, 0, 0, NULL, 0, 0, NULL, 0, numbers) != SIK_REFUSED_PROGRAM_LENGTH;
     wrong += write_record(NULL, 0, NULL, 0, 0, NULL, 0, NULL, 0, numbers) != SIK_REFUSED_PROGRAM_LENGTH;
+    wrong += write_record_two(NULL, 0, NULL, 0, 0, NULL, 0, 0, NULL, 0, NULL, 0, numbers) != SIK_REFUSED_PROGRAM_LENGTH;
     wrong += read_record(NULL, 0, numbers) != SIK_REFUSED_TRAILER_MISSING;
     wrong += check_record(NULL, 0, NULL, 0, numbers) != SIK_REFUSED_TRAILER_MISSING;
     return wrong;
@@ -112,12 +123,46 @@ static int wrong_places(void)
     wrong += parts[SIK_PARTS_TRACE_START] != 8 || parts[SIK_PARTS_TRACE_LENGTH] != 1 || parts[SIK_PARTS_SAMPLES] != 3;
     wrong += parts[SIK_PARTS_VERDICT] != SIK_NO || parts[SIK_PARTS_PASSES] != 2 || parts[SIK_PARTS_BEFORE] != 1;
     wrong += parts[SIK_PARTS_FORMAT] != 2 || parts[SIK_PARTS_LABEL_START] != 0 || parts[SIK_PARTS_LABEL_LENGTH] != 0;
+    wrong += parts[SIK_PARTS_GUARD_START] != 0 || parts[SIK_PARTS_GUARD_LENGTH] != 0;
+    wrong += parts[SIK_PARTS_GUARD_SAMPLES] != 0;
     wrong += check_record(out, 22, table, 4, checked) != 0 || checked[SIK_CHECKED_AGREEMENT] != SIK_AGREES;
     trace[0] |= 0x08, out[8] |= 0x80; /* a bit above the last sample, lent and in the record */
     wrong += evaluate(program, 7, trace, 1, 3, table, 4, evaluated) != SIK_REFUSED_PADDING_SET;
     wrong += write_record(program, 7, trace, 1, 3, table, 4, out + 1, 63, written) != SIK_REFUSED_PADDING_SET;
     wrong += read_record(out, 22, parts) != SIK_REFUSED_PADDING_SET;
     wrong += check_record(out, 22, table, 4, checked) != SIK_REFUSED_PADDING_SET;
+    return wrong;
+}
+
+/* 'Null of parameter 1' over two contacts, on 1 0 1 of the ram and nine samples of the guard: no, in two passes. */
+static int wrong_two(void)
+{
+    const uint8_t program[] = {0x81, 0x02, 0x03, 0x02, 0x02, 0x00, 0x22, 0x11};
+    const uint8_t ram[] = {0x05}, guard[] = {0xFF, 0x01};
+    uint8_t out[64];
+    uint16_t table[40];
+    uint64_t evaluated[SIK_EVALUATED_SIZE], written[SIK_WRITTEN_SIZE], parts[SIK_PARTS_SIZE], checked[SIK_CHECKED_SIZE];
+    int wrong = 0;
+    wrong += check_program(program, 8) != 0;
+    wrong += evaluate_two(program, 8, ram, 1, 3, guard, 2, 9, table, 40, evaluated) != 0;
+    wrong += evaluated[SIK_EVALUATED_VERDICT] != SIK_NO || evaluated[SIK_EVALUATED_PASSES] != 2;
+    wrong += table[39] != 1 || table[0] != 2 || table[10] != 2 || table[11] != 1; /* four rows of ten cells */
+    wrong += evaluate_two(program, 8, ram, 1, 3, guard, 2, 9, table, 39, evaluated) != SIK_REFUSED_TABLE_SHORT;
+    wrong += evaluate_two(program, 8, ram, 1, 3, guard, 2, 8, table, 40, evaluated) != SIK_REFUSED_TRACE_LENGTH;
+    wrong += evaluate(program, 8, ram, 1, 3, table, 40, evaluated) != SIK_REFUSED_FUNCTION_COUNT;
+    out[0] = 0xFF; /* a byte before the record */
+    wrong += write_record_two(program, 8, ram, 1, 3, guard, 2, 9, table, 40, out + 1, 63, written) != 0;
+    wrong += written[SIK_WRITTEN_LENGTH] != 26 || written[SIK_WRITTEN_VERDICT] != SIK_NO;
+    wrong += written[SIK_WRITTEN_PASSES] != 2;
+    wrong += read_record(out, 27, parts) != 0 || parts[SIK_PARTS_FORMAT] != 3 || parts[SIK_PARTS_BEFORE] != 1;
+    wrong += parts[SIK_PARTS_PROGRAM_START] != 1 || parts[SIK_PARTS_PROGRAM_LENGTH] != 8;
+    wrong += parts[SIK_PARTS_TRACE_START] != 9 || parts[SIK_PARTS_TRACE_LENGTH] != 1 || parts[SIK_PARTS_SAMPLES] != 3;
+    wrong += parts[SIK_PARTS_GUARD_START] != 10 || parts[SIK_PARTS_GUARD_LENGTH] != 2;
+    wrong += parts[SIK_PARTS_GUARD_SAMPLES] != 9 || parts[SIK_PARTS_LABEL_LENGTH] != 0;
+    wrong += parts[SIK_PARTS_VERDICT] != SIK_NO || parts[SIK_PARTS_PASSES] != 2;
+    wrong += check_record(out, 27, table, 40, checked) != 0 || checked[SIK_CHECKED_AGREEMENT] != SIK_AGREES;
+    out[11] |= 0x80; /* a bit above the last sample of the guard */
+    wrong += read_record(out, 27, parts) != SIK_REFUSED_PADDING_SET;
     return wrong;
 }
 
@@ -145,5 +190,5 @@ static int wrong_version(void)
 
 int main(void)
 {
-    return wrong_refusals() + wrong_order() + wrong_places() + wrong_label() + wrong_version();
+    return wrong_refusals() + wrong_order() + wrong_places() + wrong_two() + wrong_label() + wrong_version();
 }

@@ -11,7 +11,10 @@ mod program;
 mod record;
 mod ring;
 
+use super::ffi::LentTrace;
 use super::lent::{Lent, Word};
+use super::oracle::program::Contacts;
+use super::oracle::trace::{PerContact, Trace, Traces};
 use super::random::Random;
 use super::report::Report;
 
@@ -37,9 +40,9 @@ const SHOWN: usize = 256;
 pub type Kind = (&'static str, fn(&mut Bench) -> Compared);
 
 /// The kinds that together meet all of the language.
-pub const BODIES: [&str; 3] = ["pairs", "wide", "longest"];
+pub const BODIES: [&str; 4] = ["pairs", "contacts", "wide", "longest"];
 
-pub const KINDS: [Kind; 14] = [
+pub const KINDS: [Kind; 15] = [
     ("papers", papers::run),
     ("check", program::run),
     ("evaluate", evaluation::run),
@@ -51,6 +54,7 @@ pub const KINDS: [Kind; 14] = [
     ("limits", limits::run),
     ("listing", listing::run),
     ("pairs", bodies::run_pairs),
+    ("contacts", bodies::run_contacts),
     ("wide", bodies::run_wide),
     ("longest", bodies::run_longest),
     ("passes", passes::run),
@@ -77,10 +81,25 @@ impl Bench<'_> {
         Lent::new(content, front, back, null)
     }
 
-    /// Counts a case in which all agrees, or gives the difference with the case in hex.
-    fn close(&mut self, found: Findings, number: u32, story: impl Fn() -> String) -> Compared {
+    /// Lends the memory of traces.
+    fn lend_traces(&mut self, traces: &Traces) -> PerContact<LentTrace> {
+        let mut lend = |trace: &Trace| (self.lend(&trace.bytes), trace.n);
+        PerContact {
+            ram: lend(&traces.ram),
+            guard: traces.guard.as_ref().map(lend),
+        }
+    }
+
+    /// Counts a case of a sort in which all agrees, or gives the difference with the case in hex.
+    fn close(
+        &mut self,
+        found: Findings,
+        contacts: Contacts,
+        number: u32,
+        story: impl Fn() -> String,
+    ) -> Compared {
         if found.text.is_empty() {
-            self.report.count(self.kind, number);
+            self.report.count(self.kind, contacts, number);
             return Ok(());
         }
         Err(found.text + &story())
@@ -101,6 +120,13 @@ impl Findings {
         }
     }
 
+    /// Compares all of the lent traces.
+    fn traces(&mut self, have: &PerContact<LentTrace>, want: &Traces) {
+        for ((have, _), want) in have.each().zip(want.each()) {
+            self.lent("trace", have, &want.bytes);
+        }
+    }
+
     /// Compares all of a lent buffer.
     fn lent<T: Word>(&mut self, name: &str, have: &Lent<T>, want: &[T]) {
         if let Some(difference) = have.difference(want) {
@@ -115,6 +141,12 @@ fn number<T>(answer: &Result<T, u32>) -> u32 {
         Ok(_) => 0,
         Err(number) => *number,
     }
+}
+
+/// Traces in hexadecimal, with the numbers of their samples.
+fn traces_hex(traces: &Traces) -> String {
+    let trace = |trace: &Trace| format!("trace {}\nn {}", hex(&trace.bytes), trace.n);
+    traces.each().map(trace).collect::<Vec<_>>().join("\n")
 }
 
 /// Bytes in hexadecimal.

@@ -1,6 +1,7 @@
 //! The library's C interface, and calls of it on lent memory.
 
 use super::lent::Lent;
+use super::oracle::trace::PerContact;
 
 extern "C" {
     fn sik_ring_add(slots: *mut u8, slots_len: usize, state: *mut u64, sample: u8) -> u32;
@@ -29,6 +30,34 @@ extern "C" {
         trace: *const u8,
         trace_len: usize,
         n: u64,
+        table: *mut u16,
+        table_len: usize,
+        out: *mut u8,
+        out_len: usize,
+        answer: *mut u64,
+    ) -> u32;
+    fn sik_evaluate_two(
+        program: *const u8,
+        program_len: usize,
+        ram: *const u8,
+        ram_len: usize,
+        n: u64,
+        guard: *const u8,
+        guard_len: usize,
+        m: u64,
+        table: *mut u16,
+        table_len: usize,
+        answer: *mut u64,
+    ) -> u32;
+    fn sik_write_record_two(
+        program: *const u8,
+        program_len: usize,
+        ram: *const u8,
+        ram_len: usize,
+        n: u64,
+        guard: *const u8,
+        guard_len: usize,
+        m: u64,
         table: *mut u16,
         table_len: usize,
         out: *mut u8,
@@ -78,23 +107,43 @@ pub fn check_program(program: &Lent<u8>) -> u32 {
     unsafe { sik_check_program(program.pointer(), program.len()) }
 }
 
-/// Evaluates; the answer has 2 words.
+/// A lent trace: its bytes, and how many samples they shall hold.
+pub type LentTrace = (Lent<u8>, u64);
+
+/// Evaluates on the traces of one contact or of two; the answer has 2 words.
 pub fn evaluate(
     program: &Lent<u8>,
-    trace: &Lent<u8>,
-    n: u64,
+    traces: &PerContact<LentTrace>,
     table: &mut Lent<u16>,
     answer: &mut Lent<u64>,
 ) -> u32 {
     assert_eq!(answer.len(), 2);
     let length = table.len();
+    let (ram, n) = &traces.ram;
+    let Some((guard, m)) = &traces.guard else {
+        return unsafe {
+            sik_evaluate(
+                program.pointer(),
+                program.len(),
+                ram.pointer(),
+                ram.len(),
+                *n,
+                table.pointer_mut(),
+                length,
+                answer.pointer_mut(),
+            )
+        };
+    };
     unsafe {
-        sik_evaluate(
+        sik_evaluate_two(
             program.pointer(),
             program.len(),
-            trace.pointer(),
-            trace.len(),
-            n,
+            ram.pointer(),
+            ram.len(),
+            *n,
+            guard.pointer(),
+            guard.len(),
+            *m,
             table.pointer_mut(),
             length,
             answer.pointer_mut(),
@@ -102,24 +151,43 @@ pub fn evaluate(
     }
 }
 
-/// Writes a record; the answer has 3 words.
+/// Writes a record on the traces of one contact or of two; the answer has 3 words.
 pub fn write_record(
     program: &Lent<u8>,
-    trace: &Lent<u8>,
-    n: u64,
+    traces: &PerContact<LentTrace>,
     table: &mut Lent<u16>,
     out: &mut Lent<u8>,
     answer: &mut Lent<u64>,
 ) -> u32 {
     assert_eq!(answer.len(), 3);
     let (cells, room) = (table.len(), out.len());
+    let (ram, n) = &traces.ram;
+    let Some((guard, m)) = &traces.guard else {
+        return unsafe {
+            sik_write_record(
+                program.pointer(),
+                program.len(),
+                ram.pointer(),
+                ram.len(),
+                *n,
+                table.pointer_mut(),
+                cells,
+                out.pointer_mut(),
+                room,
+                answer.pointer_mut(),
+            )
+        };
+    };
     unsafe {
-        sik_write_record(
+        sik_write_record_two(
             program.pointer(),
             program.len(),
-            trace.pointer(),
-            trace.len(),
-            n,
+            ram.pointer(),
+            ram.len(),
+            *n,
+            guard.pointer(),
+            guard.len(),
+            *m,
             table.pointer_mut(),
             cells,
             out.pointer_mut(),
@@ -129,9 +197,9 @@ pub fn write_record(
     }
 }
 
-/// Reads the last record; the parts have 11 words.
+/// Reads the last record; the parts have 14 words.
 pub fn read_record(bytes: &Lent<u8>, parts: &mut Lent<u64>) -> u32 {
-    assert_eq!(parts.len(), 11);
+    assert_eq!(parts.len(), 14);
     unsafe { sik_read_record(bytes.pointer(), bytes.len(), parts.pointer_mut()) }
 }
 

@@ -1,20 +1,81 @@
-//! The language in pairs: the places where a node may stand, and the sorts of node that may stand there.
+//! The language in pairs: the places where a node may stand, and the sorts of node that may stand there. Programs over
+//! two contacts have more of both than programs over one.
+
+use super::oracle::program::{Contact, Contacts, Demand, Kind};
 
 /// The greatest depth of a node.
 pub const DEEPEST: usize = 64;
 
-/// Where a node stands. A Bool tells whether the body, the if or the argument is a list.
+pub const RAM: Kind = Kind::List(Contact::Ram);
+pub const GUARD: Kind = Kind::List(Contact::Guard);
+pub const BOOL: Demand = Demand::Only(Kind::Bool);
+
+/// All kinds, and all demands.
+const KINDS: [Kind; 3] = [Kind::Bool, RAM, GUARD];
+const DEMANDS: [Demand; 4] = [BOOL, Demand::Only(RAM), Demand::Only(GUARD), Demand::Either];
+
+/// The kinds in programs of a sort.
+pub fn kinds(contacts: Contacts) -> &'static [Kind] {
+    &KINDS[..1 + contacts.contacts().len()]
+}
+
+/// The demands in programs of a sort. Where there is one contact, either is that one.
+pub fn demands(contacts: Contacts) -> &'static [Demand] {
+    match contacts {
+        Contacts::One => &DEMANDS[..2],
+        Contacts::Two => &DEMANDS,
+    }
+}
+
+pub fn kind_number(kind: Kind) -> usize {
+    match kind {
+        Kind::Bool => 0,
+        Kind::List(contact) => 1 + contact as usize,
+    }
+}
+
+fn demand_number(demand: Demand) -> usize {
+    match demand {
+        Demand::Only(kind) => kind_number(kind),
+        Demand::Either => 3,
+    }
+}
+
+pub fn kind_name(kind: Kind) -> &'static str {
+    match kind {
+        Kind::Bool => "Bool",
+        RAM => "list",
+        GUARD => "guard list",
+    }
+}
+
+pub fn demand_name(demand: Demand) -> &'static str {
+    match demand {
+        Demand::Only(kind) => kind_name(kind),
+        Demand::Either => "list of either",
+    }
+}
+
+/// What tells the sorts of programs apart in words.
+pub fn over(contacts: Contacts) -> &'static str {
+    match contacts {
+        Contacts::One => "",
+        Contacts::Two => " over two contacts",
+    }
+}
+
+/// Where a node stands: of a tl, a condition and a branch with what is demanded of the node above it.
 #[derive(Clone, Copy, PartialEq, Eq, Debug)]
 pub enum Place {
-    Body(bool),
+    Body(Kind),
     Head,
-    Tail,
     Null,
-    Condition(bool),
-    Then(bool),
-    Else(bool),
-    /// How many arguments the call has, which of them this is, and whether it is a list.
-    Argument(usize, usize, bool),
+    Tail(Demand),
+    Condition(Demand),
+    Then(Demand),
+    Else(Demand),
+    /// How many arguments the call has, which of them this is, and its kind.
+    Argument(usize, usize, Kind),
 }
 
 /// What stands in a place. An operand of hd, tl and null, and a condition, that is a parameter makes a sort
@@ -23,20 +84,20 @@ pub enum Place {
 pub enum Sort {
     False,
     True,
-    Empty,
-    Parameter(usize),
-    HeadOfParameter,
+    Empty(Contact),
+    Parameter(usize, Kind),
+    HeadOfParameter(Contact),
     Head,
-    TailOfParameter,
+    TailOfParameter(Contact),
     Tail,
-    NullOfParameter,
+    NullOfParameter(Contact),
     Null,
     IfParameter,
-    IfNullOfParameter,
-    IfHeadOfParameter,
+    IfNullOfParameter(Contact),
+    IfHeadOfParameter(Contact),
     If,
-    /// A call of so many arguments.
-    Call(usize),
+    /// A call of so many arguments, with a result of a kind.
+    Call(usize, Kind),
 }
 
 /// What comes of a node that is taken.
@@ -64,19 +125,21 @@ impl Outcome {
 
 impl Place {
     /// How many places there are.
-    pub const COUNT: usize = 31;
+    pub const COUNT: usize = 50;
 
-    /// All places, in the order of their numbers.
-    pub fn all() -> Vec<Place> {
-        let of_both = |place: fn(bool) -> Place| [place(false), place(true)];
-        let mut places = vec![Place::Head, Place::Tail, Place::Null];
-        for place in [Place::Body, Place::Condition, Place::Then, Place::Else] {
-            places.extend(of_both(place));
+    /// All places in programs of a sort, in the order of their numbers.
+    pub fn all(contacts: Contacts) -> Vec<Place> {
+        let (kinds, demands) = (kinds(contacts).iter(), demands(contacts).iter());
+        let mut places = vec![Place::Head, Place::Null];
+        places.extend(demands.clone().skip(1).copied().map(Place::Tail));
+        places.extend(kinds.clone().copied().map(Place::Body));
+        for place in [Place::Condition, Place::Then, Place::Else] {
+            places.extend(demands.clone().copied().map(place));
         }
         for count in 1..=4 {
             for which in 0..count {
-                places.push(Place::Argument(count, which, false));
-                places.push(Place::Argument(count, which, true));
+                let argument = |kind: &Kind| Place::Argument(count, which, *kind);
+                places.extend(kinds.clone().map(argument));
             }
         }
         places
@@ -85,25 +148,25 @@ impl Place {
     pub fn number(self) -> usize {
         match self {
             Place::Head => 0,
-            Place::Tail => 1,
-            Place::Null => 2,
-            Place::Body(list) => 3 + usize::from(list),
-            Place::Condition(list) => 5 + usize::from(list),
-            Place::Then(list) => 7 + usize::from(list),
-            Place::Else(list) => 9 + usize::from(list),
-            Place::Argument(count, which, list) => {
-                11 + count * (count - 1) + 2 * which + usize::from(list)
+            Place::Null => 1,
+            Place::Tail(demand) => 1 + demand_number(demand),
+            Place::Body(kind) => 5 + kind_number(kind),
+            Place::Condition(demand) => 8 + demand_number(demand),
+            Place::Then(demand) => 12 + demand_number(demand),
+            Place::Else(demand) => 16 + demand_number(demand),
+            Place::Argument(count, which, kind) => {
+                20 + 3 * (count * (count - 1) / 2 + which) + kind_number(kind)
             }
         }
     }
 
-    /// Whether a list is demanded here.
-    pub fn list(self) -> bool {
+    /// What is demanded here, in a program of a sort.
+    pub fn demand(self, contacts: Contacts) -> Demand {
         match self {
-            Place::Head | Place::Tail | Place::Null => true,
-            Place::Condition(_) => false,
-            Place::Body(list) | Place::Then(list) | Place::Else(list) => list,
-            Place::Argument(_, _, list) => list,
+            Place::Head | Place::Null => demands(contacts)[demands(contacts).len() - 1],
+            Place::Condition(_) => BOOL,
+            Place::Tail(demand) | Place::Then(demand) | Place::Else(demand) => demand,
+            Place::Body(kind) | Place::Argument(_, _, kind) => Demand::Only(kind),
         }
     }
 
@@ -120,28 +183,36 @@ impl Place {
         }
     }
 
-    /// The kind of the node whose operand stands here; a call has either.
-    pub fn kind_above(self) -> Option<bool> {
+    /// What is demanded of the node whose operand stands here; of a call it may be anything.
+    pub fn demand_above(self) -> Option<Demand> {
         match self {
-            Place::Head | Place::Null => Some(false),
-            Place::Tail => Some(true),
-            Place::Condition(list) | Place::Then(list) | Place::Else(list) => Some(list),
+            Place::Head | Place::Null => Some(BOOL),
+            Place::Tail(demand) => Some(demand),
+            Place::Condition(demand) | Place::Then(demand) | Place::Else(demand) => Some(demand),
             Place::Body(_) | Place::Argument(..) => None,
         }
     }
 
+    /// The least depth of a node here. A whole body is never a list of either contact.
+    pub fn least_depth(self) -> usize {
+        match self {
+            Place::Body(_) => 1,
+            _ if self.demand_above() == Some(Demand::Either) => 3,
+            _ => 2,
+        }
+    }
+
     pub fn name(self) -> String {
-        let kind = |list: bool| if list { "list" } else { "Bool" };
         match self {
             Place::Head => "hd".to_string(),
-            Place::Tail => "tl".to_string(),
             Place::Null => "null".to_string(),
-            Place::Body(list) => format!("body of a {}", kind(list)),
-            Place::Condition(list) => format!("condition for a {}", kind(list)),
-            Place::Then(list) => format!("first branch for a {}", kind(list)),
-            Place::Else(list) => format!("second branch for a {}", kind(list)),
-            Place::Argument(count, which, list) => {
-                format!("argument {which} of {count}, a {}", kind(list))
+            Place::Tail(demand) => format!("tl for a {}", demand_name(demand)),
+            Place::Body(kind) => format!("body of a {}", kind_name(kind)),
+            Place::Condition(demand) => format!("condition for a {}", demand_name(demand)),
+            Place::Then(demand) => format!("first branch for a {}", demand_name(demand)),
+            Place::Else(demand) => format!("second branch for a {}", demand_name(demand)),
+            Place::Argument(count, which, kind) => {
+                format!("argument {which} of {count}, a {}", kind_name(kind))
             }
         }
     }
@@ -149,18 +220,30 @@ impl Place {
 
 impl Sort {
     /// How many sorts there are.
-    pub const COUNT: usize = 22;
+    pub const COUNT: usize = 46;
 
-    /// All sorts, in the order of their numbers.
-    pub fn all() -> Vec<Sort> {
-        let mut sorts = vec![Sort::False, Sort::True, Sort::Empty];
-        sorts.extend((0..4).map(Sort::Parameter));
-        sorts.extend([Sort::HeadOfParameter, Sort::Head]);
-        sorts.extend([Sort::TailOfParameter, Sort::Tail]);
-        sorts.extend([Sort::NullOfParameter, Sort::Null]);
-        sorts.extend([Sort::IfParameter, Sort::IfNullOfParameter]);
-        sorts.extend([Sort::IfHeadOfParameter, Sort::If]);
-        sorts.extend((0..=4).map(Sort::Call));
+    /// All sorts in programs over these contacts, in the order of their numbers.
+    pub fn all(contacts: Contacts) -> Vec<Sort> {
+        let kinds = kinds(contacts);
+        let of_lists = |sort: fn(Contact) -> Sort| contacts.contacts().iter().copied().map(sort);
+        let mut sorts = vec![Sort::False, Sort::True];
+        sorts.extend(of_lists(Sort::Empty));
+        for which in 0..4 {
+            sorts.extend(kinds.iter().map(|kind| Sort::Parameter(which, *kind)));
+        }
+        sorts.extend(of_lists(Sort::HeadOfParameter));
+        sorts.push(Sort::Head);
+        sorts.extend(of_lists(Sort::TailOfParameter));
+        sorts.push(Sort::Tail);
+        sorts.extend(of_lists(Sort::NullOfParameter));
+        sorts.push(Sort::Null);
+        sorts.push(Sort::IfParameter);
+        sorts.extend(of_lists(Sort::IfNullOfParameter));
+        sorts.extend(of_lists(Sort::IfHeadOfParameter));
+        sorts.push(Sort::If);
+        for count in 0..=4 {
+            sorts.extend(kinds.iter().map(|kind| Sort::Call(count, *kind)));
+        }
         sorts
     }
 
@@ -168,29 +251,33 @@ impl Sort {
         match self {
             Sort::False => 0,
             Sort::True => 1,
-            Sort::Empty => 2,
-            Sort::Parameter(which) => 3 + which,
-            Sort::HeadOfParameter => 7,
-            Sort::Head => 8,
-            Sort::TailOfParameter => 9,
-            Sort::Tail => 10,
-            Sort::NullOfParameter => 11,
-            Sort::Null => 12,
-            Sort::IfParameter => 13,
-            Sort::IfNullOfParameter => 14,
-            Sort::IfHeadOfParameter => 15,
-            Sort::If => 16,
-            Sort::Call(count) => 17 + count,
+            Sort::Empty(contact) => 2 + contact as usize,
+            Sort::Parameter(which, kind) => 4 + 3 * which + kind_number(kind),
+            Sort::HeadOfParameter(contact) => 16 + contact as usize,
+            Sort::Head => 18,
+            Sort::TailOfParameter(contact) => 19 + contact as usize,
+            Sort::Tail => 21,
+            Sort::NullOfParameter(contact) => 22 + contact as usize,
+            Sort::Null => 24,
+            Sort::IfParameter => 25,
+            Sort::IfNullOfParameter(contact) => 26 + contact as usize,
+            Sort::IfHeadOfParameter(contact) => 28 + contact as usize,
+            Sort::If => 30,
+            Sort::Call(count, kind) => 31 + 3 * count + kind_number(kind),
         }
     }
 
-    /// Whether a node of this sort may stand where a list is demanded, or where a Bool is.
-    pub fn fits(self, list: bool) -> bool {
+    /// Whether a node of this sort may stand where something is demanded.
+    pub fn fits(self, demand: Demand) -> bool {
         match self {
-            Sort::Empty | Sort::TailOfParameter | Sort::Tail => list,
-            Sort::False | Sort::True => !list,
-            Sort::HeadOfParameter | Sort::Head => !list,
-            Sort::NullOfParameter | Sort::Null => !list,
+            Sort::Empty(contact) | Sort::TailOfParameter(contact) => {
+                demand.allows(Kind::List(contact))
+            }
+            Sort::Tail => demand != BOOL,
+            Sort::False | Sort::True => demand == BOOL,
+            Sort::HeadOfParameter(_) | Sort::Head => demand == BOOL,
+            Sort::NullOfParameter(_) | Sort::Null => demand == BOOL,
+            Sort::Parameter(_, kind) | Sort::Call(_, kind) => demand.allows(kind),
             _ => true,
         }
     }
@@ -198,56 +285,64 @@ impl Sort {
     /// How many nodes must stand below a node of this sort, one below the other.
     pub fn below(self) -> usize {
         match self {
-            Sort::False | Sort::True | Sort::Empty | Sort::Parameter(_) | Sort::Call(0) => 0,
-            Sort::IfNullOfParameter | Sort::IfHeadOfParameter => 2,
+            Sort::False | Sort::True | Sort::Empty(_) => 0,
+            Sort::Parameter(..) | Sort::Call(0, _) => 0,
+            Sort::IfNullOfParameter(_) | Sort::IfHeadOfParameter(_) => 2,
             _ => 1,
         }
     }
 
-    /// What may come of a node of this sort, a list or not. Without a list at hand there is only the empty one.
-    pub fn outcomes(self, list: bool) -> &'static [Outcome] {
+    /// What may come of a node of this sort. Without a list at hand there is only the empty one.
+    pub fn outcomes(self) -> &'static [Outcome] {
         use Outcome::*;
         match self {
-            Sort::Call(0) if list => &[Undecided, HeadOfEmpty, TailOfEmpty, Least],
-            Sort::False | Sort::Empty => &[Least],
+            Sort::Call(0, Kind::List(_)) => &[Undecided, HeadOfEmpty, TailOfEmpty, Least],
+            Sort::False | Sort::Empty(_) => &[Least],
             Sort::True => &[More],
-            Sort::Parameter(_) | Sort::NullOfParameter => &[Least, More],
-            Sort::HeadOfParameter => &[HeadOfEmpty, Least, More],
-            Sort::TailOfParameter => &[TailOfEmpty, Least, More],
+            Sort::Parameter(..) | Sort::NullOfParameter(_) => &[Least, More],
+            Sort::HeadOfParameter(_) => &[HeadOfEmpty, Least, More],
+            Sort::TailOfParameter(_) => &[TailOfEmpty, Least, More],
             _ => &[Undecided, HeadOfEmpty, TailOfEmpty, Least, More],
         }
     }
 
     pub fn name(self) -> String {
-        let name = match self {
-            Sort::False => "False",
-            Sort::True => "True",
-            Sort::Empty => "empty",
-            Sort::Parameter(which) => return format!("p{which}"),
-            Sort::HeadOfParameter => "hd-p",
-            Sort::Head => "hd",
-            Sort::TailOfParameter => "tl-p",
-            Sort::Tail => "tl",
-            Sort::NullOfParameter => "null-p",
-            Sort::Null => "null",
-            Sort::IfParameter => "if-p",
-            Sort::IfNullOfParameter => "if-null-p",
-            Sort::IfHeadOfParameter => "if-hd-p",
-            Sort::If => "if",
-            Sort::Call(count) => return format!("call-{count}"),
+        let of = |name: &str, contact: Contact| match contact {
+            Contact::Ram => name.to_string(),
+            Contact::Guard => format!("{name}-guard"),
         };
-        name.to_string()
+        let with = |name: String, kind: Kind| match kind {
+            GUARD => of(&name, Contact::Guard),
+            _ => name,
+        };
+        match self {
+            Sort::False => "False".to_string(),
+            Sort::True => "True".to_string(),
+            Sort::Empty(contact) => of("empty", contact),
+            Sort::Parameter(which, kind) => with(format!("p{which}"), kind),
+            Sort::HeadOfParameter(contact) => of("hd-p", contact),
+            Sort::Head => "hd".to_string(),
+            Sort::TailOfParameter(contact) => of("tl-p", contact),
+            Sort::Tail => "tl".to_string(),
+            Sort::NullOfParameter(contact) => of("null-p", contact),
+            Sort::Null => "null".to_string(),
+            Sort::IfParameter => "if-p".to_string(),
+            Sort::IfNullOfParameter(contact) => of("if-null-p", contact),
+            Sort::IfHeadOfParameter(contact) => of("if-hd-p", contact),
+            Sort::If => "if".to_string(),
+            Sort::Call(count, kind) => with(format!("call-{count}"), kind),
+        }
     }
 }
 
 /// Every sort in every place that may have it.
-pub fn pairs() -> Vec<(Place, Sort)> {
+pub fn pairs(contacts: Contacts) -> Vec<(Place, Sort)> {
     let mut pairs = Vec::new();
-    for place in Place::all() {
-        let sorts = Sort::all().into_iter();
+    for place in Place::all(contacts) {
+        let sorts = Sort::all(contacts).into_iter();
         pairs.extend(
             sorts
-                .filter(|sort| sort.fits(place.list()))
+                .filter(|sort| sort.fits(place.demand(contacts)))
                 .map(|sort| (place, sort)),
         );
     }
@@ -256,18 +351,25 @@ pub fn pairs() -> Vec<(Place, Sort)> {
 
 /// The depths at which a sort may stand in a place.
 pub fn depths(place: Place, sort: Sort) -> std::ops::RangeInclusive<usize> {
-    match place {
-        Place::Body(_) => 1..=1,
-        _ => 2..=DEEPEST - sort.below(),
-    }
+    let deepest = match place.is_body() {
+        true => 1,
+        false => DEEPEST - sort.below(),
+    };
+    place.least_depth()..=deepest
 }
 
-/// Every pair in an operand of a node that itself stands in any place: that place first.
-pub fn triples() -> Vec<(Place, Place, Sort)> {
+/// Every pair in an operand of a node that itself stands in any place: that place first. Of two contacts only the
+/// places where a list of either is demanded are taken.
+pub fn triples(contacts: Contacts) -> Vec<(Place, Place, Sort)> {
     let mut triples = Vec::new();
-    for above in Place::all() {
-        for (place, sort) in pairs() {
-            let fits = place.kind_above().is_none_or(|kind| kind == above.list());
+    let wanted = |place: &Place| match contacts {
+        Contacts::One => true,
+        Contacts::Two => place.demand(contacts) == Demand::Either,
+    };
+    for above in Place::all(contacts).into_iter().filter(wanted) {
+        for (place, sort) in pairs(contacts) {
+            let demand = above.demand(contacts);
+            let fits = place.demand_above().is_none_or(|it| it == demand);
             if fits && !place.is_body() {
                 triples.push((above, place, sort));
             }

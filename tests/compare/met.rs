@@ -5,14 +5,19 @@ mod walk;
 
 use std::fmt;
 
-use super::language::{depths, pairs, triples, Outcome, Place, Sort, DEEPEST};
+use super::language::{
+    demand_name, demands, depths, over, pairs, triples, Outcome, Place, Sort, DEEPEST,
+};
+use super::oracle::program::{Contacts, Demand};
+use super::oracle::trace::Samples;
 use walk::{Function, Kinds, Node, Walk};
 
 /// The most functions of a program.
 const FUNCTIONS: usize = 32;
 
-/// How often each was taken; a node counts once for each case that has it.
+/// How often each was taken in programs of a sort; a node counts once for each case that has it.
 pub struct Met {
+    contacts: Contacts,
     /// By place and sort.
     pairs: Vec<u64>,
     /// By place, sort and depth.
@@ -36,22 +41,31 @@ pub enum Counted {
     Depth(usize),
     Callee(usize),
     Call(Kinds, Outcome),
+    Called(Kinds),
     AtDepth(Place, Sort, usize),
     Below(Place, Place, Sort),
     Outcome(Place, Sort, Outcome),
+    /// In any place with a demand.
+    Demanded(Demand, Sort, Outcome),
     End(Place, Sort),
 }
 
-/// All counts of one sort.
+/// Counts of things that must all be met, each with its words.
 pub struct Tally {
-    name: &'static str,
-    counts: Vec<(Counted, u64)>,
+    name: String,
+    counts: Vec<(String, u64)>,
 }
 
-impl Default for Met {
-    fn default() -> Self {
+/// The number of a pair.
+fn number(place: Place, sort: Sort) -> usize {
+    place.number() * Sort::COUNT + sort.number()
+}
+
+impl Met {
+    pub fn new(contacts: Contacts) -> Self {
         let pairs = Place::COUNT * Sort::COUNT;
         Met {
+            contacts,
             pairs: vec![0; pairs],
             depths: vec![0; pairs * (DEEPEST + 1)],
             outcomes: vec![0; pairs * Outcome::COUNT],
@@ -61,17 +75,15 @@ impl Default for Met {
             callees: vec![0; FUNCTIONS],
         }
     }
-}
 
-/// The number of a pair.
-fn number(place: Place, sort: Sort) -> usize {
-    place.number() * Sort::COUNT + sort.number()
-}
-
-impl Met {
     /// Counts what is taken in an accepted program on samples; the cells are those that evaluating left. A cell
     /// that its own body does not come to is told.
-    pub fn count(&mut self, program: &[u8], samples: &[bool], cells: &[u16]) -> Result<(), String> {
+    pub fn count(
+        &mut self,
+        program: &[u8],
+        samples: &Samples,
+        cells: &[u16],
+    ) -> Result<(), String> {
         let mut walk = Walk::new(program, samples, cells);
         for own in 0..walk.functions.len() {
             walk.function(own)?;
@@ -113,6 +125,12 @@ impl Met {
             Counted::Call(kinds, outcome) => {
                 self.calls[kinds.number() * Outcome::COUNT + outcome as usize]
             }
+            Counted::Called(kinds) => {
+                let outcomes = Outcome::ALL.into_iter();
+                outcomes
+                    .map(|it| self.times(Counted::Call(kinds, it)))
+                    .sum()
+            }
             Counted::AtDepth(place, sort, depth) => {
                 self.depths[number(place, sort) * (DEEPEST + 1) + depth]
             }
@@ -122,53 +140,89 @@ impl Met {
             Counted::Outcome(place, sort, outcome) => {
                 self.outcomes[number(place, sort) * Outcome::COUNT + outcome as usize]
             }
+            Counted::Demanded(demand, sort, outcome) => {
+                let mut places = Place::all(self.contacts);
+                places.retain(|place| place.demand(self.contacts) == demand);
+                let times = |place: &Place| self.times(Counted::Outcome(*place, sort, outcome));
+                places.iter().map(times).sum()
+            }
             Counted::End(place, sort) => self.ends[number(place, sort)],
         }
     }
 
-    fn tally(&self, name: &'static str, counted: impl IntoIterator<Item = Counted>) -> Tally {
-        let counts = counted.into_iter().map(|it| (it, self.times(it)));
-        Tally {
-            name,
-            counts: counts.collect(),
-        }
+    fn tally(&self, name: &str, counted: impl IntoIterator<Item = Counted>) -> Tally {
+        let over = over(self.contacts);
+        let counts = counted
+            .into_iter()
+            .map(|it| (format!("{it}{over}"), self.times(it)));
+        Tally::new(&format!("{name}{over}"), counts.collect())
     }
 
     /// All that the targets must meet together.
     pub fn tallies(&self) -> Vec<Tally> {
-        let mut at_depths = Vec::new();
-        let mut outcomes = Vec::new();
-        let mut ends = Vec::new();
-        for (place, sort) in pairs() {
-            at_depths.extend(depths(place, sort).map(|at| Counted::AtDepth(place, sort, at)));
-            let all = sort.outcomes(place.list()).iter();
-            outcomes.extend(all.map(|it| Counted::Outcome(place, sort, *it)));
-            if place.is_last() && sort.below() == 0 && !place.is_body() {
-                ends.push(Counted::End(place, sort));
-            }
-        }
-        let mut calls = Vec::new();
-        for kinds in Kinds::all() {
-            let all = kinds.outcomes().iter();
-            calls.extend(all.map(|it| Counted::Call(kinds, *it)));
-        }
-        let pairs = pairs().into_iter();
-        let below = triples().into_iter();
-        vec![
+        let contacts = self.contacts;
+        let ends = pairs(contacts)
+            .into_iter()
+            .filter(|(place, sort)| place.is_last() && sort.below() == 0 && !place.is_body());
+        let pairs = pairs(contacts).into_iter();
+        let below = triples(contacts).into_iter();
+        let mut tallies = vec![
             self.tally(
                 "pairs",
                 pairs.map(|(place, sort)| Counted::Pair(place, sort)),
             ),
             self.tally("depths", (1..=DEEPEST).map(Counted::Depth)),
-            self.tally("pairs at a depth", at_depths),
             self.tally(
                 "pairs below a place",
                 below.map(|(a, b, c)| Counted::Below(a, b, c)),
             ),
-            self.tally("outcomes of pairs", outcomes),
-            self.tally("pairs at the end of 4096 bytes", ends),
+            self.tally(
+                "pairs at the end of 4096 bytes",
+                ends.map(|(place, sort)| Counted::End(place, sort)),
+            ),
             self.tally("functions called", (0..FUNCTIONS).map(Counted::Callee)),
+        ];
+        tallies.extend(match contacts {
+            Contacts::One => self.over_one(),
+            Contacts::Two => self.over_two(),
+        });
+        tallies
+    }
+
+    /// Over one contact every pair comes at every depth and to every outcome.
+    fn over_one(&self) -> Vec<Tally> {
+        let mut at_depths = Vec::new();
+        let mut outcomes = Vec::new();
+        for (place, sort) in pairs(Contacts::One) {
+            at_depths.extend(depths(place, sort).map(|at| Counted::AtDepth(place, sort, at)));
+            let all = sort.outcomes().iter();
+            outcomes.extend(all.map(|it| Counted::Outcome(place, sort, *it)));
+        }
+        let mut calls = Vec::new();
+        for kinds in Kinds::all(Contacts::One) {
+            let all = kinds.outcomes().iter();
+            calls.extend(all.map(|it| Counted::Call(kinds, *it)));
+        }
+        vec![
+            self.tally("pairs at a depth", at_depths),
+            self.tally("outcomes of pairs", outcomes),
             self.tally("outcomes of calls by kinds", calls),
+        ]
+    }
+
+    /// Over two contacts every sort comes to every outcome for each demand.
+    fn over_two(&self) -> Vec<Tally> {
+        let mut outcomes = Vec::new();
+        for demand in demands(Contacts::Two) {
+            for sort in Sort::all(Contacts::Two) {
+                let all = sort.outcomes().iter().filter(|_| sort.fits(*demand));
+                outcomes.extend(all.map(|it| Counted::Demanded(*demand, sort, *it)));
+            }
+        }
+        let called = Kinds::all(Contacts::Two).into_iter().map(Counted::Called);
+        vec![
+            self.tally("outcomes of sorts by demand", outcomes),
+            self.tally("kinds called", called),
         ]
     }
 
@@ -178,18 +232,19 @@ impl Met {
         if self.pairs.iter().all(|count| *count == 0) {
             return text;
         }
-        for place in Place::all() {
-            text += &format!("taken in {}:", place.name());
-            for sort in Sort::all()
+        let over = over(self.contacts);
+        for place in Place::all(self.contacts) {
+            text += &format!("taken{over} in {}:", place.name());
+            for sort in Sort::all(self.contacts)
                 .into_iter()
-                .filter(|sort| sort.fits(place.list()))
+                .filter(|sort| sort.fits(place.demand(self.contacts)))
             {
                 let times = self.times(Counted::Pair(place, sort));
                 text += &format!(" {}:{times}", sort.name());
             }
             text += "\n";
         }
-        text += "taken at depth";
+        text += &format!("taken{over} at depth");
         for depth in 1..=DEEPEST {
             text += &format!(" {depth}:{}", self.times(Counted::Depth(depth)));
         }
@@ -199,17 +254,24 @@ impl Met {
 }
 
 impl Tally {
+    pub fn new(name: &str, counts: Vec<(String, u64)>) -> Self {
+        Tally {
+            name: name.to_string(),
+            counts,
+        }
+    }
+
     /// What was never met, in words.
     pub fn never_met(&self) -> Vec<String> {
         let never = self.counts.iter().filter(|(_, times)| *times == 0);
-        never.map(|(counted, _)| counted.to_string()).collect()
+        never.map(|(words, _)| words.clone()).collect()
     }
 
     /// How many are counted, and the one met least.
-    fn line(&self) -> String {
+    pub fn line(&self) -> String {
         let least = self.counts.iter().min_by_key(|(_, times)| times);
-        let (counted, times) = least.expect("something is counted");
-        format!("met: {self}, the least {times} times: {counted}\n")
+        let (words, times) = least.expect("something is counted");
+        format!("met: {self}, the least {times} times: {words}\n")
     }
 }
 
@@ -227,12 +289,21 @@ impl fmt::Display for Counted {
             Counted::Depth(depth) => write!(out, "depth {depth}"),
             Counted::Callee(callee) => write!(out, "function {callee}"),
             Counted::Call(kinds, outcome) => write!(out, "{}: {outcome:?}", kinds.name()),
+            Counted::Called(kinds) => out.write_str(&kinds.name()),
             Counted::AtDepth(place, sort, at) => write!(out, "{} at depth {at}", pair(place, sort)),
             Counted::Below(above, place, sort) => {
                 write!(out, "{} below {}", pair(place, sort), above.name())
             }
             Counted::Outcome(place, sort, outcome) => {
                 write!(out, "{}: {outcome:?}", pair(place, sort))
+            }
+            Counted::Demanded(demand, sort, outcome) => {
+                write!(
+                    out,
+                    "{} for a {}: {outcome:?}",
+                    sort.name(),
+                    demand_name(demand)
+                )
             }
             Counted::End(place, sort) => write!(out, "{} at the end", pair(place, sort)),
         }

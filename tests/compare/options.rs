@@ -6,7 +6,7 @@ pub struct Options {
     /// The first round.
     pub from: u64,
     pub rounds: u64,
-    /// Each buffer its own allocation without guard words.
+    /// Each buffer its own allocation with no words around it.
     pub exact: bool,
     /// Name each round and kind before it is run.
     pub loud: bool,

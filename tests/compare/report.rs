@@ -2,49 +2,70 @@
 
 use std::collections::BTreeMap;
 
-use super::met::Met;
+use super::language::over;
+use super::met::{Met, Tally};
+use super::oracle::program::Contacts;
 use super::oracle::search::Evaluation;
 
-/// The largest refusal number.
+/// The largest refusal number, and those that rings alone meet.
 const LAST_NUMBER: u32 = 23;
+const OF_RINGS: [u32; 2] = [18, 19];
 
 /// The records that are told apart where one is read.
-const RECORDS: [&str; 3] = ["a label", "a label of zeros", "no label"];
+const RECORDS: [&str; 4] = ["a label", "a label of zeros", "no label", "a guard trace"];
 
-#[derive(Default)]
 pub struct Report {
-    /// For each kind of case, how often each number was answered; 0 is no refusal.
-    kinds: BTreeMap<&'static str, BTreeMap<u32, u64>>,
+    /// For each kind of case and sort, how often each number was answered; 0 is no refusal.
+    kinds: BTreeMap<(&'static str, Contacts), BTreeMap<u32, u64>>,
     /// How often each of RECORDS was read.
-    records: [u64; 3],
-    verdicts: [u64; 5],
+    records: [u64; 4],
+    verdicts: [[u64; 5]; 2],
     most_passes: u32,
     most_cells: usize,
-    pub met: Met,
+    met: [Met; 2],
+}
+
+impl Default for Report {
+    fn default() -> Self {
+        Report {
+            kinds: BTreeMap::new(),
+            records: [0; 4],
+            verdicts: [[0; 5]; 2],
+            most_passes: 0,
+            most_cells: 0,
+            met: Contacts::ALL.map(Met::new),
+        }
+    }
 }
 
 impl Report {
     /// Counts one case in which library and oracle agree.
-    pub fn count(&mut self, kind: &'static str, number: u32) {
-        let counts = self.kinds.entry(kind).or_default();
+    pub fn count(&mut self, kind: &'static str, contacts: Contacts, number: u32) {
+        let counts = self.kinds.entry((kind, contacts)).or_default();
         *counts.entry(number).or_default() += 1;
     }
 
-    /// Counts a record that was read, by its label.
-    pub fn read(&mut self, label: Option<&[u8]>) {
+    /// Counts a record that was read, by its label and its contacts.
+    pub fn read(&mut self, contacts: Contacts, label: Option<&[u8]>) {
         let zeros = |label: &[u8]| label.iter().all(|byte| *byte == 0);
-        let place = match label {
-            Some(label) => usize::from(zeros(label)),
-            None => 2,
+        let place = match (contacts, label) {
+            (Contacts::One, Some(label)) => usize::from(zeros(label)),
+            (Contacts::One, None) => 2,
+            (Contacts::Two, _) => 3,
         };
         self.records[place] += 1;
     }
 
     /// Counts what an evaluation came to.
-    pub fn worked_out(&mut self, evaluation: &Evaluation) {
-        self.verdicts[usize::from(evaluation.verdict)] += 1;
+    pub fn worked_out(&mut self, contacts: Contacts, evaluation: &Evaluation) {
+        self.verdicts[contacts as usize][usize::from(evaluation.verdict)] += 1;
         self.most_passes = self.most_passes.max(evaluation.passes);
         self.most_cells = self.most_cells.max(evaluation.cells.len());
+    }
+
+    /// What was met of the language, in programs of a sort.
+    pub fn met(&mut self, contacts: Contacts) -> &mut Met {
+        &mut self.met[contacts as usize]
     }
 
     /// The number of cases in all.
@@ -52,55 +73,82 @@ impl Report {
         self.kinds.values().flat_map(BTreeMap::values).sum()
     }
 
-    /// The refusal numbers that no case met.
-    pub fn never_answered(&self) -> Vec<String> {
-        let met = |number: &u32| {
-            self.kinds
-                .values()
-                .any(|counts| counts.contains_key(number))
-        };
-        let never = (1..=LAST_NUMBER).filter(|number| !met(number));
-        never.map(|number| format!("number {number}")).collect()
+    /// How often a number was answered, over a sort.
+    fn times(&self, contacts: Contacts, number: u32) -> u64 {
+        let of_sort = self.kinds.iter().filter(|((_, it), _)| *it == contacts);
+        of_sort.filter_map(|(_, counts)| counts.get(&number)).sum()
     }
 
-    /// The records that no case read.
-    pub fn never_read(&self) -> Vec<String> {
+    /// Every refusal number, over both sorts but for those of rings.
+    pub fn numbers(&self) -> Tally {
+        let mut counts = Vec::new();
+        for number in 1..=LAST_NUMBER {
+            let [one, two] = Contacts::ALL.map(|it| self.times(it, number));
+            match OF_RINGS.contains(&number) {
+                true => counts.push((format!("number {number}"), one)),
+                false => {
+                    counts.push((format!("number {number} over one contact"), one));
+                    counts.push((format!("number {number} over two contacts"), two));
+                }
+            }
+        }
+        Tally::new("numbers by sort", counts)
+    }
+
+    /// Every sort of record.
+    pub fn records(&self) -> Tally {
         let counts = RECORDS.iter().zip(self.records);
-        let never = counts.filter(|(_, read)| *read == 0);
-        never
-            .map(|(name, _)| format!("record with {name}"))
-            .collect()
+        let counts = counts.map(|(name, read)| (format!("record with {name}"), read));
+        Tally::new("sorts of records", counts.collect())
     }
 
-    /// One line for each kind of case, one on the records read, one on the evaluations, and what they met of the
-    /// language.
+    /// All that was met of the language.
+    pub fn language(&self) -> Vec<Tally> {
+        self.met.iter().flat_map(Met::tallies).collect()
+    }
+
+    /// A line for each kind of case and sort, one on the records read, those on the evaluations, and what they met of
+    /// the language.
     pub fn lines(&self) -> String {
-        let lines = self.kinds.iter().map(|(kind, counts)| line(kind, counts));
-        lines.collect::<String>() + &self.read_records() + &self.evaluations() + &self.met.lines()
+        let lines = self.kinds.iter().map(|(kind, counts)| line(*kind, counts));
+        let met = self.met.iter().map(Met::lines);
+        lines.collect::<String>()
+            + &self.read_records()
+            + &self.evaluations()
+            + &met.collect::<String>()
+            + &self.numbers().line()
     }
 
     /// The line on all records that were read.
     fn read_records(&self) -> String {
-        let [label, zeros, none] = self.records;
-        format!("records read: with a label {label}, with one of zeros {zeros}, with none {none}\n")
+        let [label, zeros, none, guard] = self.records;
+        format!(
+            "records read: with a label {label}, with one of zeros {zeros}, with none {none}, \
+             with a guard trace {guard}\n"
+        )
     }
 
-    /// The line on all evaluations.
+    /// A line on all evaluations of each sort, and one on the largest.
     fn evaluations(&self) -> String {
-        let [forever, no, yes, head, tail] = self.verdicts;
+        let mut text = String::new();
+        for contacts in Contacts::ALL {
+            let [forever, no, yes, head, tail] = self.verdicts[contacts as usize];
+            text += &format!(
+                "verdicts{}: forever {forever}, no {no}, yes {yes}, head {head}, tail {tail}\n",
+                over(contacts)
+            );
+        }
         let (passes, cells) = (self.most_passes, self.most_cells);
-        format!(
-            "verdicts: forever {forever}, no {no}, yes {yes}, head {head}, tail {tail}; \
-             most passes {passes}, most cells {cells}\n"
-        )
+        text + &format!("most passes {passes}, most cells {cells}\n")
     }
 }
 
 /// The line of one kind of case: the cases, those not refused, and how often each number was met.
-fn line(kind: &str, counts: &BTreeMap<u32, u64>) -> String {
+fn line((kind, contacts): (&str, Contacts), counts: &BTreeMap<u32, u64>) -> String {
     let cases: u64 = counts.values().sum();
     let accepted = counts.get(&0).unwrap_or(&0);
-    let mut text = format!("{kind}: {cases} cases, not refused {accepted}");
+    let over = over(contacts);
+    let mut text = format!("{kind}{over}: {cases} cases, not refused {accepted}");
     for (place, (number, count)) in counts.range(1..).enumerate() {
         text += if place == 0 { ", refused" } else { "" };
         text += &format!(" {number}:{count}");

@@ -1,9 +1,11 @@
 //! The sample archive: records of each verdict; one with another verdict, one with another pass count; a rule
 //! that needs all of the listing's cells, and one that needs more; traces of no sample, of some and of many. The
-//! older records are of format 1, two of them with a label that is set; those of format 2 come after them.
+//! older records are of format 1, two of them with a label that is set; those of format 2 come after them, and last
+//! three of format 3, of a press with a ram contact and a guard contact.
 
 use super::oracle::record::Content;
-use super::oracle::{program, search, trace};
+use super::oracle::trace::{self, Samples};
+use super::oracle::{program, search};
 
 const ALL_ONES: &[u8] = b"\x01\x01\x01\x0B\x00\x23\x22\x10\x01\x23\x20\x10\x80\x21\x10\x00";
 const NO_TWO_ONES: &[u8] = b"\x01\x01\x01\x17\x00\x23\x22\x10\x01\x23\x20\x10\x23\x22\x21\x10\
@@ -16,6 +18,9 @@ const BY_ANOTHER: &[u8] = b"\x02\x01\x01\x01\x00\x81\x00\x00\x01\x00\x01";
 const SAME_LENGTH: &[u8] = b"\x02\x01\x01\x04\x00\x81\x10\x21\x10\x02\x03\x0D\x00\x23\x22\x10\
     \x01\x23\x22\x11\x00\x81\x21\x10\x21\x11";
 const ALWAYS: &[u8] = b"\x01\x01\x01\x01\x00\x01";
+/// The ram may not move while the guard is open: no sample of the ram is 1 where that of the guard is 0.
+const GUARD_CLOSED: &[u8] = b"\x81\x02\x03\x02\x15\x00\x23\x22\x10\x01\x23\x20\x10\x23\x20\x11\
+    \x80\x21\x10\x21\x11\x00\x80\x21\x10\x21\x11";
 /// The label of a record of format 1 for which none was set.
 const UNSET: Option<[u8; 8]> = Some([0; 8]);
 
@@ -26,12 +31,30 @@ fn fitting() -> Vec<u8> {
 
 /// A record of a rule on a trace, with the verdict and the pass count that it has.
 fn recorded(program: &[u8], samples: &[bool], label: Option<[u8; 8]>) -> Content {
-    let functions = program::check(program).expect("the sample's programs are accepted");
+    let samples = Samples {
+        ram: samples.to_vec(),
+        guard: None,
+    };
+    worked_out(program, &samples, label)
+}
+
+/// A record of a rule on the traces of two contacts, given as characters 0 and 1.
+fn guarded(program: &[u8], ram: &str, guard: &str) -> Content {
+    let bits = |text: &str| text.chars().map(|bit| bit == '1').collect();
+    let samples = Samples {
+        ram: bits(ram),
+        guard: Some(bits(guard)),
+    };
+    worked_out(program, &samples, None)
+}
+
+fn worked_out(program: &[u8], samples: &Samples, label: Option<[u8; 8]>) -> Content {
+    let functions = program::check_for(samples.contacts(), program);
+    let functions = functions.expect("the sample's programs are accepted");
     let evaluation = search::evaluate(&functions, samples);
     Content {
         program: program.to_vec(),
-        trace: trace::pack(samples),
-        n: samples.len() as u16,
+        traces: trace::packed(samples),
         label,
         verdict: evaluation.verdict,
         passes: evaluation.passes,
@@ -64,6 +87,10 @@ pub fn archive() -> Vec<u8> {
         recorded(ALL_ONES, &[true; 24], None),
         recorded(ALWAYS, &[], None),
         no,
+        // From here on format 3: two strokes with the guard closed, a stroke that begins too early, no guard sample.
+        guarded(GUARD_CLOSED, "000111000000111000", "001111110001111100"),
+        guarded(GUARD_CLOSED, "000111000", "000011110"),
+        guarded(GUARD_CLOSED, "1", ""),
     ];
     contents.iter().flat_map(Content::bytes).collect()
 }

@@ -1,8 +1,8 @@
 -- Laws of the lengths of a listing's lines, of numbers below 10 ^ 5:
---   record-line-short      the line of a record, at most 34
+--   record-line-short      the line of a record, at most 34, with a guard trace at most 39
 --   stop-line-short        the line of a refused record, at most 64
 --   end-line-short         the line after the last record, at most 64
-use Prim.Native.Nat.{ℕ, zero, suc, _^_, _<_, _≤_}
+use Prim.Native.Nat.{ℕ, zero, suc, _+_, _^_, _<_, _≤_}
 use native.Mathlib.Omega.{arith}
 use lib.ListN.{length, length-append}
 use Rattle.refusal.specs.declared.Refusal.{Refusal}
@@ -10,10 +10,12 @@ use Rattle.refusal.specs.{numberOf}
 use Rattle.refusal.proofs.Numbers.{number-small}
 use Rattle.encoding.specs.{decimal}
 use Rattle.encoding.proofs.Decimal.{length-decimal}
+use Rattle.layout.specs.declared.GuardTrace.{GuardTrace}
+use Rattle.layout.specs.declared.GuardTrace.the-variants.{Absent, At}
 use Rattle.layout.specs.declared.Parts.{Parts}
 use Rattle.record.specs.declared.Checked.{Checked}
 use Rattle.record.specs.declared.Checked.the-variants as checked
-use Rattle.archive.specs.Listing.{verdictWord, checkWord, recordLine, stopLine, endLine}
+use Rattle.archive.specs.Listing.{space, guardField, verdictWord, checkWord, recordLine, stopLine, endLine}
 
 -- ---- Fields
 
@@ -39,12 +41,35 @@ check-short (checked.Refused f) = omega (arith, number-short f)
 
 -- ---- Lines
 
-pub record-line-short : (ordinal size : ℕ) (p : Parts) (c : Checked) → ordinal < 10 ^ 5 → size < 10 ^ 5 → p .n < 10 ^ 5
-    → length (recordLine ordinal size p c) ≤ 34
+-- of a record, with a guard trace five more
+abbrev pub mostLine : GuardTrace → ℕ
+mostLine Absent = 34
+mostLine (At s m) = 39
+
+-- the guard trace's samples, if there is one
+abbrev pub GuardBelow : GuardTrace → ℕ → Type 0
+GuardBelow Absent k = Unit {0}
+GuardBelow (At s m) k = m < k
+
+guard-short : (g : GuardTrace) → GuardBelow g (10 ^ 4) → 34 + length (guardField g) ≤ mostLine g
+unfolding guardField
+guard-short Absent few = omega arith
+guard-short (At s m) few = omega (arith, length-append (decimal m) space, length-decimal 4 m (omega arith) few)
+
+pub record-line-short : (ordinal size : ℕ) (p : Parts) (c : Checked) → ordinal < 10 ^ 5 → size < 10 ^ 5 → p .n < 10 ^ 5 → GuardBelow (p .guard) (10 ^ 4)
+    → length (recordLine ordinal size p c) ≤ mostLine (p .guard)
 unfolding recordLine
-record-line-short ordinal size p c o s n =
+record-line-short ordinal size p c o s n m =
     simp length-append
-    (omega (arith, decimal-short ordinal o, decimal-short size s, decimal-short (p .n) n, verdict-short (p .verdict), check-short c))
+    (omega (
+      arith,
+      decimal-short ordinal o,
+      decimal-short size s,
+      decimal-short (p .n) n,
+      guard-short (p .guard) m,
+      verdict-short (p .verdict),
+      check-short c,
+    ))
 
 pub stop-line-short : (ordinal : ℕ) (f : Refusal) → ordinal < 10 ^ 5 → length (stopLine ordinal f) ≤ 64
 unfolding stopLine

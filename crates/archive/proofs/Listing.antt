@@ -9,7 +9,7 @@
 --   too-long, listed-whole         the whole listing
 use mathlib.Core.Path.{_≡_, refl, sym, ap, _∙_}
 use mathlib.Core.List.{List, [], _∷_, _++_}
-use Prim.Native.Nat.{ℕ, zero, suc, _+_, _-_, _*_, _<_, _≤_}
+use Prim.Native.Nat.{ℕ, zero, suc, _+_, _-_, _*_, _^_, _<_, _≤_}
 use native.Mathlib.Numerals.{add-one}
 use native.Mathlib.Omega.{arith}
 use borrow.Author.Tests.{lt-ltb, le-ltb}
@@ -18,6 +18,8 @@ use lib.Seq.{length-take-le, take-all, take-take}
 use Rattle.refusal.specs.declared.Refusal.{Refusal}
 use Rattle.encoding.specs.{put}
 use Rattle.encoding.proofs.Putting.{Left, left-room, left-more, left-front}
+use Rattle.layout.specs.declared.GuardTrace.{GuardTrace}
+use Rattle.layout.specs.declared.GuardTrace.the-variants.{Absent, At}
 use Rattle.layout.specs.declared.Parts.{Parts}
 use Rattle.layout.specs.declared.Reading.{Reading}
 use Rattle.layout.specs.declared.Reading.the-variants as read
@@ -28,11 +30,12 @@ use Rattle.record.specs.Checking.{checking, examining}
 use Rattle.rule.specs.Form.{AreBytes}
 use Rattle.rule.proofs.FunctionBytes.{bytes-take}
 use Rattle.record.proofs.Answers.{parts-within}
-use Rattle.record.proofs.Ends.{record-least}
+use Rattle.layout.proofs.Places.{GuardWithin}
+use Rattle.record.proofs.Ends.{leastBytes, record-least}
 use Rattle.archive.specs.Walk.{walk}
 use Rattle.archive.specs.Listing.{mostArchive, listingCells, listingBytes, newline, tooLongWords, recordLine, stopLine, endLine, linesOf, listing}
 use Rattle.archive.proofs.Walking.{before-short, walk-end, walk-record, walk-refused}
-use Rattle.archive.proofs.Lengths.{record-line-short, stop-line-short, end-line-short}
+use Rattle.archive.proofs.Lengths.{mostLine, GuardBelow, record-line-short, stop-line-short, end-line-short}
 
 -- ---- The lines of some bytes, by what they end in
 
@@ -53,7 +56,12 @@ lines-refused listed bytes f h e = rw (walk-refused bytes f h e)
 
 -- ---- Their length
 
--- a turn: a line of at most 34 bytes for a record of at least 19
+-- a line takes at most two bytes for each of its record's
+line-few : (bytes : List ℕ) (g : GuardTrace) → GuardWithin bytes g → GuardBelow g (10 ^ 4) × (mostLine g ≤ 2 * leastBytes g)
+line-few bytes Absent w = (tt, omega arith)
+line-few bytes (At s m) w = (omega arith, omega arith)
+
+-- a turn
 record-short : (listed : ℕ) (bytes : List ℕ) (p : Parts) → AreBytes bytes → listed + length bytes ≤ mostArchive → reading bytes ≡ read.Record p
     → length (linesOf (suc listed) (walk (take (p .program .start) bytes))) ≤ 2 * length (take (p .program .start) bytes) + 64
     → length (linesOf listed (walk bytes)) ≤ 2 * length bytes + 64
@@ -63,9 +71,10 @@ record-short listed bytes p are few e more =
     let rest = linesOf (suc listed) (walk (take (p .program .start) bytes)) in
     let line = recordLine (suc listed) size p (checking bytes listingCells) in
     let before : length (take (p .program .start) bytes) ≡ p .program .start = length-take-le (p .program .start) bytes (omega (arith, w .some)) in
-    let one : length line ≤ 34 =
-    record-line-short (suc listed) size p (checking bytes listingCells) (omega arith) (omega arith) (omega (arith, w .few)) in
-    rw (lines-record listed bytes p e) (omega (arith, length-append line rest, record-least bytes p are e))
+    let least = line-few bytes (p .guard) (w .guard) in
+    let one : length line ≤ mostLine (p .guard) =
+    record-line-short (suc listed) size p (checking bytes listingCells) (omega arith) (omega arith) (omega (arith, w .few)) (least .0) in
+    rw (lines-record listed bytes p e) (omega (arith, length-append line rest, record-least bytes p are e, least .1))
 
 by-reading : (listed : ℕ) (bytes : List ℕ) (r : Reading) → AreBytes bytes → 0 < length bytes → listed + length bytes ≤ mostArchive → reading bytes ≡ r
     → ((p : Parts) → reading bytes ≡ read.Record p

@@ -1,4 +1,4 @@
--- Archives, of document 01:
+-- Archives, of documents 01 and 02:
 --   Walk       the records of an archive, the last first
 --   Listing    the text that the listing program prints of one
 pub mod Walk

@@ -1,4 +1,4 @@
--- The text that the listing program prints, of document 01 ('Programs tried'): a line for each record from the last.
+-- The text that the listing program prints, of documents 01 ('Programs tried') and 02: a line for each record from the last.
 use Prim.Native.Nat.{ℕ, zero, suc, _-_}
 use mathlib.Core.Bool.{cond}
 use mathlib.Core.List.{List, [], _∷_, _++_}
@@ -7,6 +7,8 @@ use lib.ListN.{length}
 use Rattle.refusal.specs.declared.Refusal.{Refusal}
 use Rattle.refusal.specs.{numberOf}
 use Rattle.encoding.specs.{decimal}
+use Rattle.layout.specs.declared.GuardTrace.{GuardTrace}
+use Rattle.layout.specs.declared.GuardTrace.the-variants.{Absent, At}
 use Rattle.layout.specs.declared.Parts.{Parts}
 use Rattle.record.specs.declared.Checked.{Checked}
 use Rattle.record.specs.declared.Checked.the-variants as checked
@@ -64,15 +66,21 @@ tooLongWords = 0x74 ∷ 0x6F ∷ 0x6F ∷ 0x20 ∷ 0x6C ∷ 0x6F ∷ 0x6E ∷ 0x
 abbrev pub field : List ℕ → List ℕ
 field text = text ++ space
 
+-- 'both counts, ram first': the guard trace's after n, where there is one
+unfoldable pub guardField : GuardTrace → List ℕ
+guardField (At s m) = field (decimal m)
+guardField Absent = []
+
 -- 'ordinal, record length, n, verdict word, then agrees, differs or the number 21'
 unfoldable pub recordLine : ℕ → ℕ → Parts → Checked → List ℕ
 recordLine ordinal size p c =
     field (decimal ordinal)
     ++ (field (decimal size)
     ++ (field (decimal (p .n))
+    ++ (guardField (p .guard)
     ++ (field (verdictWord (p .verdict))
     ++ (checkWord c
-    ++ newline))))
+    ++ newline)))))
 
 -- 'stop, ordinal, number'
 unfoldable pub stopLine : ℕ → Refusal → List ℕ
@@ -95,7 +103,7 @@ linesOf listed (found bytes p w) =
 unfoldable pub listing : List ℕ → List ℕ
 listing archive = cond (ltb mostArchive (length archive)) (tooLongWords ++ newline) (linesOf 0 (walk archive))
 
--- room for every listing: a record of at least 19 bytes has a line of at most 34, less than two for each of its bytes, and the last
--- line has at most 64: 2 × 32,768 + 64
+-- room for every listing: a record of at least 19 bytes has a line of at most 34, one of at least 21, with a guard trace, a line of at
+-- most 39, so less than two for each of its bytes, and the last line has at most 64: 2 × 32,768 + 64
 abbrev pub listingBytes : ℕ
 listingBytes = 65600

@@ -11,8 +11,8 @@ ghost use Rattle.archive.specs.Walk.{stepIn, stepAnswer, stepNumbers};
 ghost use Rattle.archive.specs.Listing.{listing};
 
 // The longest archive that is listed, the cells that its records are checked in, and room for every listing: a
-// record of at least 19 bytes has a line of at most 34, less than two for each of its bytes, and the last line has at
-// most 64: 2 × 32,768 + 64.
+// record of at least 19 bytes has a line of at most 34, one of at least 21, with a guard trace, a line of at most 39, so less
+// than two for each of its bytes, and the last line has at most 64: 2 × 32,768 + 64.
 pub const MOST_ARCHIVE: usize = 32768;
 
 pub const CELLS: usize = 16384;

@@ -1,4 +1,5 @@
 // The lines of a listing.
+use layout::GuardTrace;
 use layout::Parts;
 use layout::Reading;
 use record::Checked;
@@ -8,7 +9,7 @@ ghost use Prim.Native.Nat.{_+_, _≤_};
 ghost use lib.ListN.{length};
 ghost use Rattle.encoding.specs.{decimal, begins, put};
 ghost use Rattle.archive.specs.Walk.{walk};
-ghost use Rattle.archive.specs.Listing.{mostArchive, listingCells, listingBytes, verdictWord, checkWord, recordLine, stopLine, endLine, linesOf};
+ghost use Rattle.archive.specs.Listing.{mostArchive, listingCells, listingBytes, guardField, verdictWord, checkWord, recordLine, stopLine, endLine, linesOf};
 ghost use Rattle.archive.specs.Listing.{field as Listing·field};
 
 // Lists the records of an archive from the last, checked in the table, and answers the place after the
@@ -41,7 +42,7 @@ pub fn lines(archive: &[u8], table: &mut [u16], out: &mut [u8]) -> usize
     end_line(out, at, listed)
 }
 
-// The line of a record: ordinal, record length, n, verdict word, check word.
+// The line of a record: ordinal, record length, n, in format 3 the guard trace's count, verdict word, check word.
 fn record_line(
     out: &mut [u8],
     at: usize,
@@ -57,10 +58,24 @@ fn record_line(
     let a = field(out, at, ordinal);
     let b = field(out, a, size);
     let c = field(out, b, parts.n as u32);
-    let d = verdict_word(out, c, parts.verdict);
-    let e = encoding::put(out, d, b" ");
-    let f = check_word(out, e, checked);
-    encoding::put(out, f, b"\n")
+    let guard = parts.guard;
+    let d = guard_field(out, c, guard);
+    let e = verdict_word(out, d, parts.verdict);
+    let f = encoding::put(out, e, b" ");
+    let g = check_word(out, f, checked);
+    encoding::put(out, g, b"\n")
+}
+
+// The number of a guard trace's samples, and the space after it; nothing where there is no such trace.
+fn guard_field(out: &mut [u8], at: usize, guard: GuardTrace) -> usize
+    requires { ⌜ at + length (guardField guard) ≤ length (now out) ⌝ }
+    ensures place { λ r. ⌜ r ≡ at + length (guardField guard) ⌝ }
+    ensures output { λ _. ⌜ now (out .exit) ≡ put at (guardField guard) (now (out .entry)) ⌝ }
+{
+    match guard {
+        GuardTrace::Absent => at,
+        GuardTrace::At(_, m) => field(out, at, m as u32),
+    }
 }
 
 // The line of a refused record.

@@ -17,18 +17,18 @@ ghost use Rattle.decoding.specs.Words.{sortOf, ifParamSort, callSort, callOneSo
 ghost use Rattle.evaluator.specs.{evalWord, branchAt};
 ghost use Rattle.bodies.specs.{Leaf, plainBy, sortAt};
 
-// The number of the outcome of a body, by its word. `env` has the numbers of the parameter values, and at 4 the
-// length of the trace.
+// The number of the outcome of a body, by its word. `env` has the working numbers of the parameter values, and
+// from 4 on the lengths of the traces.
 pub fn outcome(
     words: &[u64; WORDS],
-    trace: &[u8; codes::TRACE_BYTES],
+    traces: &[u8; codes::TRACES_BYTES],
     table: &[u16],
-    env: &[u16; 5],
+    env: &[u16; 6],
     body: u64,
 ) -> u16
-    ensures { λ r. ⌜ r ≡ evalWord (now (words .entry)) (now (trace .entry)) (now (table .entry)) (now (env .entry)) mostDepth body ⌝ }
+    ensures { λ r. ⌜ r ≡ evalWord (now (words .entry)) (now (traces .entry)) (now (table .entry)) (now (env .entry)) mostDepth body ⌝ }
 {
-    take(words, trace, &table, env, syntax::MOST_DEPTH, body)
+    take(words, traces, &table, env, syntax::MOST_DEPTH, body)
 }
 
 // What a node that is no leaf is told by: no outcome has this number.
@@ -37,87 +37,89 @@ const NO_LEAF: u16 = 65535;
 // The number of the outcome of a node of the spine.
 fn take(
     words: &[u64; WORDS],
-    trace: &[u8; codes::TRACE_BYTES],
+    traces: &[u8; codes::TRACES_BYTES],
     table: &&[u16],
-    env: &[u16; 5],
+    env: &[u16; 6],
     depth: u8,
     node: u64,
 ) -> u16
     requires { ⌜ 0 < depth ⌝ }
-    ensures { λ r. ⌜ r ≡ evalWord (now (words .entry)) (now (trace .entry)) (now (now (table .entry))) (now (env .entry)) depth node ⌝ }
+    ensures { λ r. ⌜ r ≡ evalWord (now (words .entry)) (now (traces .entry)) (now (now (table .entry))) (now (env .entry)) depth node ⌝ }
 {
     let left = depth - 1;
     if left == 0 {
-        return eval(words, trace, table, env, depth, node);
+        return eval(words, traces, table, env, depth, node);
     }
     let sort = nodes::sort(node);
     if sort < nodes::IF_PARAM {
-        return eval(words, trace, table, env, depth, node);
+        return eval(words, traces, table, env, depth, node);
     }
     if sort < nodes::CALL {
-        return conditional(words, trace, table, env, left, node, sort);
+        return conditional(words, traces, table, env, left, node, sort);
     }
     if sort == nodes::CALL_ONE {
-        return call_one(words, trace, table, env, depth, node);
+        return call_one(words, traces, table, env, depth, node);
     }
     if sort == nodes::CALL {
-        return call(words, trace, table, env, depth, node);
+        return call(words, traces, table, env, depth, node);
     }
-    eval(words, trace, table, env, depth, node)
+    eval(words, traces, table, env, depth, node)
 }
 
 // An if that has its condition beside it, by its sort. That a list is not empty is told first: it is so most often.
 fn conditional(
     words: &[u64; WORDS],
-    trace: &[u8; codes::TRACE_BYTES],
+    traces: &[u8; codes::TRACES_BYTES],
     table: &&[u16],
-    env: &[u16; 5],
+    env: &[u16; 6],
     depth: u8,
     node: u64,
     sort: u64,
 ) -> u16
     requires { ⌜ (0 < depth) × (ifParamSort ≤ sort) × (sort < callSort) ⌝ }
-    ensures { λ r. ⌜ r ≡ sortAt (now (words .entry)) (now (trace .entry)) (now (now (table .entry))) (now (env .entry)) depth node sort ⌝ }
+    ensures { λ r. ⌜ r ≡ sortAt (now (words .entry)) (now (traces .entry)) (now (now (table .entry))) (now (env .entry)) depth node sort ⌝ }
 {
     let value = param(env, node);
     if sort == nodes::IF_NULL {
         if codes::SUFFIX < value {
-            return take(words, trace, table, env, depth, nodes::third(words, node));
+            if value != codes::GUARD_SUFFIX {
+                return take(words, traces, table, env, depth, nodes::third(words, node));
+            }
         }
-        return branch(words, trace, table, env, depth, node, codes::null(value));
+        return branch(words, traces, table, env, depth, node, codes::null(value));
     }
     if sort == nodes::IF_HEAD {
         return branch(
             words,
-            trace,
+            traces,
             table,
             env,
             depth,
             node,
-            codes::head(trace, env[4], value),
+            codes::head(traces, env[4], env[5], value),
         );
     }
-    branch(words, trace, table, env, depth, node, value)
+    branch(words, traces, table, env, depth, node, value)
 }
 
 // The branch that a condition's outcome chooses.
 fn branch(
     words: &[u64; WORDS],
-    trace: &[u8; codes::TRACE_BYTES],
+    traces: &[u8; codes::TRACES_BYTES],
     table: &&[u16],
-    env: &[u16; 5],
+    env: &[u16; 6],
     depth: u8,
     node: u64,
     chosen: u16,
 ) -> u16
     requires { ⌜ 0 < depth ⌝ }
-    ensures { λ r. ⌜ r ≡ branchAt (now (words .entry)) (now (trace .entry)) (now (now (table .entry))) (now (env .entry)) depth node chosen ⌝ }
+    ensures { λ r. ⌜ r ≡ branchAt (now (words .entry)) (now (traces .entry)) (now (now (table .entry))) (now (env .entry)) depth node chosen ⌝ }
 {
     if chosen == codes::TRUE {
-        return take(words, trace, table, env, depth, nodes::second(words, node));
+        return take(words, traces, table, env, depth, nodes::second(words, node));
     }
     if chosen == codes::FALSE {
-        return take(words, trace, table, env, depth, nodes::third(words, node));
+        return take(words, traces, table, env, depth, nodes::third(words, node));
     }
     chosen
 }
@@ -125,14 +127,14 @@ fn branch(
 // A call, if its arguments are leaves.
 fn call(
     words: &[u64; WORDS],
-    trace: &[u8; codes::TRACE_BYTES],
+    traces: &[u8; codes::TRACES_BYTES],
     table: &&[u16],
-    env: &[u16; 5],
+    env: &[u16; 6],
     depth: u8,
     node: u64,
 ) -> u16
     requires { ⌜ (1 < depth) × (sortOf node ≡ callSort) ⌝ }
-    ensures { λ r. ⌜ r ≡ evalWord (now (words .entry)) (now (trace .entry)) (now (now (table .entry))) (now (env .entry)) depth node ⌝ }
+    ensures { λ r. ⌜ r ≡ evalWord (now (words .entry)) (now (traces .entry)) (now (now (table .entry))) (now (env .entry)) depth node ⌝ }
 {
     let place = FUNCTIONS + STRIDE * nodes::callee(node);
     let count = nodes::count(node);
@@ -140,9 +142,9 @@ fn call(
     let mut index: u64 = 0;
     let mut i: u64 = 0;
     while i < count {
-        let value = leaf(trace, env, nodes::at(words, rest));
+        let value = leaf(traces, env, nodes::at(words, rest));
         if value == NO_LEAF {
-            return eval(words, trace, table, env, depth, node);
+            return eval(words, traces, table, env, depth, node);
         }
         let kind = words[place + 1 + i as usize];
         let digit = digit(kind, value);
@@ -159,18 +161,18 @@ fn call(
 // A call with one argument, if that is a leaf.
 fn call_one(
     words: &[u64; WORDS],
-    trace: &[u8; codes::TRACE_BYTES],
+    traces: &[u8; codes::TRACES_BYTES],
     table: &&[u16],
-    env: &[u16; 5],
+    env: &[u16; 6],
     depth: u8,
     node: u64,
 ) -> u16
     requires { ⌜ (1 < depth) × (sortOf node ≡ callOneSort) ⌝ }
-    ensures { λ r. ⌜ r ≡ evalWord (now (words .entry)) (now (trace .entry)) (now (now (table .entry))) (now (env .entry)) depth node ⌝ }
+    ensures { λ r. ⌜ r ≡ evalWord (now (words .entry)) (now (traces .entry)) (now (now (table .entry))) (now (env .entry)) depth node ⌝ }
 {
-    let value = leaf(trace, env, nodes::first(words, node));
+    let value = leaf(traces, env, nodes::first(words, node));
     if value == NO_LEAF {
-        return eval(words, trace, table, env, depth, node);
+        return eval(words, traces, table, env, depth, node);
     }
     let place = FUNCTIONS + STRIDE * nodes::callee(node);
     let kind = words[place + 1];
@@ -182,8 +184,8 @@ fn call_one(
 }
 
 // The number of the outcome of a leaf: a constant, a parameter, its tl or its hd. NO_LEAF for other nodes.
-fn leaf(trace: &[u8; codes::TRACE_BYTES], env: &[u16; 5], node: u64) -> u16
-    ensures { λ r. ⌜ Leaf (now (trace .entry)) (now (env .entry)) node r ⌝ }
+fn leaf(traces: &[u8; codes::TRACES_BYTES], env: &[u16; 6], node: u64) -> u16
+    ensures { λ r. ⌜ Leaf (now (traces .entry)) (now (env .entry)) node r ⌝ }
 {
     let sort = nodes::sort(node);
     if sort == nodes::TAIL_PARAM {
@@ -193,13 +195,13 @@ fn leaf(trace: &[u8; codes::TRACE_BYTES], env: &[u16; 5], node: u64) -> u16
         return plain(env, node, sort);
     }
     if sort == nodes::HEAD_PARAM {
-        return codes::head(trace, env[4], param(env, node));
+        return codes::head(traces, env[4], env[5], param(env, node));
     }
     NO_LEAF
 }
 
 // A parameter or a constant, by its sort.
-fn plain(env: &[u16; 5], node: u64, sort: u64) -> u16
+fn plain(env: &[u16; 6], node: u64, sort: u64) -> u16
     ensures { λ r. ⌜ r ≡ plainBy (now (env .entry)) node sort ⌝ }
 {
     if sort == nodes::PARAM {

@@ -2,6 +2,7 @@
 use archive::Step;
 use evaluate::Evaluated;
 use evaluate::PassMade;
+use layout::GuardTrace;
 use layout::Label;
 use layout::Parts;
 use layout::Reading;
@@ -97,14 +98,27 @@ fn place(text: &[u8], span: Span) {
 fn parts(parts: Parts) {
     let program = parts.program;
     let trace = parts.trace;
+    let guard = parts.guard;
     let label = parts.label;
     told(b" format", parts.format as usize);
     place(b" program", program);
     place(b" trace", trace);
     told(b" n", parts.n as usize);
+    guarded(guard);
     site(label);
     told(b" verdict", parts.verdict as usize);
     told(b" passes", parts.passes as usize);
+}
+
+// The guard trace of a record, if it has one.
+fn guarded(guard: GuardTrace) {
+    match guard {
+        GuardTrace::At(span, m) => {
+            place(b" guard", span);
+            told(b" m", m as usize);
+        }
+        GuardTrace::Absent => {}
+    }
 }
 
 // The site label of a record.

@@ -3,6 +3,7 @@ use crate::answers;
 use crate::operations::CELLS_AT;
 use crate::operations::PLACES;
 use crate::operations::SECOND;
+use crate::operations::THIRD;
 use crate::operations::WRITTEN_AT;
 use ring::Added;
 use ring::Ring;
@@ -27,7 +28,11 @@ const EVALUATE: usize = 8;
 
 const WRITE: usize = 10;
 
-const CHECK_RECORD: usize = 11;
+const EVALUATE_TWO: usize = 11;
+
+const WRITE_TWO: usize = 13;
+
+const CHECK_RECORD: usize = 14;
 
 // Makes the call of the operation with a number, and prints its answer.
 pub fn perform(
@@ -55,15 +60,16 @@ pub fn perform(
         return of_bytes(index, first, numbers[0]);
     }
     let table = parts::cells_mut(cells, places[CELLS_AT], places[CELLS_AT + 1]);
-    if WRITE < index {
+    if WRITE_TWO < index {
         return of_record(index, first, table);
     }
     let second = parts::bytes(given, places[SECOND], places[SECOND + 1]);
-    if index < WRITE {
-        return of_rule(index, first, second, numbers[0], table);
-    }
     let out = parts::bytes_mut(written, places[WRITTEN_AT], places[WRITTEN_AT + 1]);
-    answers::written(record::write(first, second, numbers[0], table, out));
+    if WRITE < index {
+        let third = parts::bytes(given, places[THIRD], places[THIRD + 1]);
+        return of_two(index, first, second, third, numbers, table, out);
+    }
+    of_rule(index, first, second, numbers[0], table, out);
 }
 
 // Operations on a ring, on lent slots or with an output.
@@ -89,10 +95,44 @@ fn of_bytes(index: usize, bytes: &[u8], left: usize) {
 }
 
 // Operations on a program and a trace.
-fn of_rule(index: usize, program: &[u8], trace: &[u8], n: usize, table: &mut [u16]) {
+fn of_rule(
+    index: usize,
+    program: &[u8],
+    trace: &[u8],
+    n: usize,
+    table: &mut [u16],
+    out: &mut [u8],
+) {
     match index {
         EVALUATE => answers::evaluated(evaluate::evaluate(program, trace, n, table)),
+        WRITE => answers::written(record::write(program, trace, n, table, out)),
         _ => answers::passed(evaluate::pass(program, trace, n, table)),
+    }
+}
+
+// Operations on a program and the traces of two contacts.
+fn of_two(
+    index: usize,
+    program: &[u8],
+    ram: &[u8],
+    guard: &[u8],
+    numbers: &[usize; 2],
+    table: &mut [u16],
+    out: &mut [u8],
+) {
+    let n = numbers[0];
+    let m = numbers[1];
+    match index {
+        EVALUATE_TWO => answers::evaluated(evaluate::evaluate_two(
+            program,
+            ram,
+            n,
+            guard,
+            m,
+            table,
+        )),
+        WRITE_TWO => answers::written(record::write_two(program, ram, n, guard, m, table, out)),
+        _ => answers::passed(evaluate::pass_two(program, ram, n, guard, m, table)),
     }
 }
 

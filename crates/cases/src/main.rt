@@ -10,10 +10,12 @@
 //     add SLOTS NEXT COUNT SAMPLE       take SLOTS NEXT COUNT OUTPUT       fill SLOTS SAMPLES
 //     check PROGRAM                     evaluate PROGRAM TRACE N TABLE     pass PROGRAM TRACE N TABLE
 //     write PROGRAM TRACE N TABLE OUTPUT
+//     evaluate-two PROGRAM RAM N GUARD M TABLE         pass-two PROGRAM RAM N GUARD M TABLE
+//     write-two PROGRAM RAM N GUARD M TABLE OUTPUT
 //     read RECORD                       check-record RECORD TABLE          examine RECORD TABLE
 //     last ARCHIVE LEFT                 walk ARCHIVE                       list ARCHIVE
 //
-// NEXT, COUNT, N and LEFT are numbers in decimal. TABLE is cells: numbers in decimal with '+' between them, each
+// NEXT, COUNT, N, M and LEFT are numbers in decimal. TABLE is cells: numbers in decimal with '+' between them, each
 // with '*' and a number to repeat it, as 0+9*4. The others are bytes: pairs of hexadecimal digits, with capitals;
 // '*' and a number repeats the pairs before it, and '+' begins others, so 0102*3+FF is 01 02 01 02 01 02 FF. In
 // bytes and cells '[' and ']' stand around the part that is lent, as in 9*2[0*3]9; without them all is lent. '-'

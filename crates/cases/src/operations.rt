@@ -13,7 +13,7 @@ const WRITTEN: usize = 5000;
 const CELLS: usize = 5000;
 
 // The operations, the bytes of a row for each, and the place of the fields in a row.
-const OPERATIONS: usize = 13;
+const OPERATIONS: usize = 16;
 
 const WIDTH: usize = 20;
 
@@ -21,7 +21,7 @@ const SHAPE: usize = 13;
 
 // A row for each operation, its name and its fields: n a number, b bytes that are read, w bytes that may be
 // written, c cells that may be. Its number is its place in this table.
-fn operations() -> [u8; 260] {
+fn operations() -> [u8; 320] {
     *b"add          wnnb   \
        take         bnnw   \
        fill         wb     \
@@ -33,6 +33,9 @@ fn operations() -> [u8; 260] {
        evaluate     bbnc   \
        pass         bbnc   \
        write        bbncw  \
+       evaluate-two bbnbnc \
+       pass-two     bbnbnc \
+       write-two    bbnbncw\
        check-record bc     \
        examine      bc     "
 }
@@ -49,14 +52,16 @@ struct Fields {
 }
 
 // Three places for each memory, in `places`: the beginning and the end of the lent part, and the end of the whole.
-// First come up to two fields of bytes that are read, then the bytes and the cells that may be written.
-pub const PLACES: usize = 12;
+// First come up to three fields of bytes that are read, then the bytes and the cells that may be written.
+pub const PLACES: usize = 15;
 
 pub const SECOND: usize = 3;
 
-pub const WRITTEN_AT: usize = 6;
+pub const THIRD: usize = 6;
 
-pub const CELLS_AT: usize = 9;
+pub const WRITTEN_AT: usize = 9;
+
+pub const CELLS_AT: usize = 12;
 
 // Runs a line; false where it cannot be read.
 pub fn line(line: &[u8]) -> bool {

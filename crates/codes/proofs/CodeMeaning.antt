@@ -1,10 +1,14 @@
 -- The numbers of outcomes, worked with as the rules work with outcomes:
---   OfKind                                  no outcome, or one of a kind
+--   ShortTraces, LengthsOf, SaysTraces      traces within the limit; their lengths, and their bytes
+--   OfDemand, any-list                      no outcome, or one that a place allows; hd, tl and null allow any list
+--   workingContent                          the working number of what is worked with
 --   head-means, tail-means, null-means      hd, tl and null
 --   radix-means                             how many values a kind has
 --   value-own, value-digit                  a value is not foreign to its kind, and what digit it has there
 --   none-foreign, failed-foreign            undecided and errors are foreign to every kind
 --   decided-means                           what a cell holds, by the result kind of its function
+--   working-means, cell-working             from a cell to the working number, and back
+--   working-not-zero                        no outcome has the working number of undecided
 use Prim.Native.Nat.{ℕ, zero, suc, _+_, _-_, _<_, _≤_}
 use native.Mathlib.Omega.{arith}
 use mathlib.Core.Path.{_≡_, refl, _∙_}
@@ -12,100 +16,187 @@ use mathlib.Core.Bool.{Bool, true, false, cond}
 use mathlib.Core.List.{List}
 use mathlib.Core.Option.{Option, none, some}
 use lib.ListN.{length, getD}
-use lib.Dec.{T, leb, leb→le}
+use lib.Dec.{T, leb}
 use borrow.Author.Tests.{lt-ltb, le-ltb, lt-leb, ne-eqb, leb-true, leb-false}
+use Rattle.trace.specs.{mostSamples}
+use Rattle.semantics.specs.declared.Contact.{Contact}
+use Rattle.semantics.specs.declared.Contact.the-variants.{Ram, Guard}
 use Rattle.semantics.specs.declared.Error.{Error}
 use Rattle.semantics.specs.declared.Error.the-variants.{Head, Tail}
 use Rattle.semantics.specs.declared.Outcome.{Outcome}
 use Rattle.semantics.specs.declared.Outcome.the-variants.{Truth, Suffix, Failed}
-use Rattle.semantics.specs.Language.{Kind, truth, list, isList, hd, tl, null, Trace, Value, bit, suffix, given, inKind}
+use Rattle.semantics.specs.Language.{Kind, truth, list, Op, hd, tl, null, Traces, traceOf, Value, bit, suffix, given, inKind, Demand, only, anyList, opAllowed, operandDemand}
 use Rattle.semantics.specs.Numbering.{kindSize, digitOf}
-use Rattle.semantics.specs.Cells.{undecidedCode, falseCode, trueCode, headCode, tailCode, suffixCode, codeOf, contentOf, outcomeIn, ofKind}
+use Rattle.semantics.specs.Cells.{undecidedCode, falseCode, trueCode, headCode, tailCode, suffixCode, codeOf, contentOf, ofKind, outcomeIn}
 use Rattle.semantics.specs.Bodies.{withValue, operated}
-use Rattle.codes.specs.{sampleCode, headOf, tailOf, nullOf, radixOf, lowestCode, foreign, leastCode, mostCode, decidedCode}
+use Rattle.semantics.proofs.Demands.{same-contact, suffix-in, ofDemand, demand-kind}
+use Rattle.semantics.proofs.Cells.{code-held}
+use Rattle.syntax.specs.Kinds.{kindNumber}
+use Rattle.codes.specs.declared.Lengths.{Lengths}
+use Rattle.codes.specs.{workingOf, mostTraceBytes, sampleCode, headBy, headOf, emptyCode, tailOf, nullOf, radixOf, lowestCode, foreign, leastCode, mostCode, decidedCode, shiftOf, workingBy, cellCode}
 
--- no outcome, or one of a kind
-abbrev pub OfKind : Trace → Kind → Option Outcome → Type 0
-OfKind t κ r = (o : Outcome) → r ≡ some o → T (ofKind t κ o)
+-- ---- Traces
+
+abbrev pub ShortTraces : Traces → Type 0
+ShortTraces t = (c : Contact) → length (traceOf t c) ≤ mostSamples
+
+pub record LengthsOf (t : Traces) (n : Lengths) : Type 0 where
+  pub ram : n .ram ≡ length (t .ofRam)
+  pub guard : n .guard ≡ length (t .ofGuard)
+
+-- where the bytes of a trace begin
+abbrev pub bytesFrom : Contact → ℕ
+bytesFrom Ram = 0
+bytesFrom Guard = mostTraceBytes
+
+-- the bytes of both traces say their samples
+abbrev pub SaysTraces : Traces → List ℕ → Type 0
+SaysTraces t bytes = (c : Contact) (i : ℕ) → i < length (traceOf t c)
+    → sampleCode bytes (bytesFrom c) i ≡ cond (getD (traceOf t c) i false) trueCode falseCode
+
+-- ---- Outcomes
+
+-- no outcome, or one that meets a demand
+abbrev pub OfDemand : Traces → Demand → Option Outcome → Type 0
+OfDemand t d r = (o : Outcome) → r ≡ some o → T (ofDemand t d o)
+
+-- what the operand of hd, tl or null gives is a list of either contact
+pub any-list : (t : Traces) (p : Op) (d : Demand) (r : Option Outcome) → T (opAllowed p d) → OfDemand t (operandDemand p d) r
+    → OfDemand t anyList r
+any-list t hd d r a h = h
+any-list t tl (only truth) r a h = absurd a
+any-list t tl (only (list c)) r a h = λ o e. demand-kind t anyList (list c) o tt (h o e)
+any-list t tl anyList r a h = h
+any-list t null d r a h = h
+
+-- the working number of an outcome, and 0 where there is none
+abbrev pub workingContent : Option Outcome → ℕ
+workingContent none = undecidedCode
+workingContent (some o) = workingOf o
 
 -- ---- Operations on a list
 
 -- the length in the number of a suffix
-suffix-code : (k : ℕ) → suffixCode + k - suffixCode ≡ k
-suffix-code k = omega arith
+suffix-code : (first k : ℕ) → first + k - first ≡ k
+suffix-code first k = omega arith
 
-truth-code : (b : Bool) → cond b trueCode falseCode ≡ codeOf (Truth b)
+suffix-least : (c : Contact) (k : ℕ) → suffixCode ≤ workingOf (Suffix c k)
+suffix-least Ram k = omega arith
+suffix-least Guard k = omega arith
+
+is-empty : (c : Contact) → emptyCode (workingOf (Suffix c zero)) ≡ true
+is-empty Ram = refl
+is-empty Guard = refl
+
+not-empty : (c : Contact) (k : ℕ) → suc k ≤ mostSamples → emptyCode (workingOf (Suffix c (suc k))) ≡ false
+not-empty Ram k h = simp (ne-eqb (5 + suc k) 5 (λ e. omega arith), ne-eqb (5 + suc k) 8197 (λ e. omega arith))
+not-empty Guard k h = simp (ne-eqb (8197 + suc k) 5 (λ e. omega arith), ne-eqb (8197 + suc k) 8197 (λ e. omega arith))
+
+one-less : (c : Contact) (k : ℕ) → workingOf (Suffix c (suc k)) - 1 ≡ workingOf (Suffix c k)
+one-less Ram k = omega arith
+one-less Guard k = omega arith
+
+truth-code : (b : Bool) → cond b trueCode falseCode ≡ workingOf (Truth b)
 truth-code true = refl
 truth-code false = refl
 
-module _ (t : Trace) (trace : List ℕ) (same : (i : ℕ) → i < length t → sampleCode trace i ≡ cond (getD t i false) trueCode falseCode) where
-  pub head-means : (r : Option Outcome) → OfKind t list r → headOf trace (length t) (contentOf r) ≡ contentOf (withValue Failed r (operated t hd))
-  head-means none h = refl
-  head-means (some (Truth b)) h = absurd (h (Truth b) refl)
-  head-means (some (Suffix zero)) h = refl
-  head-means (some (Suffix (suc k))) h =
-      let l = leb→le (suc k) (length t) (h (Suffix (suc k)) refl) in
-      simp (le-ltb (5 + suc k) 5 (omega arith), suffix-code (suc k), ne-eqb (suc k) 0 (λ z. omega arith), le-ltb (length t) (suc k) l)
-      (same (length t - suc k) (omega arith) ∙ truth-code (getD t (length t - suc k) false))
-  head-means (some (Failed Head)) h = refl
-  head-means (some (Failed Tail)) h = refl
+module _ (t : Traces) (short : ShortTraces t) where
+  -- a suffix of a trace is no longer than the trace, which is short
+  within : (c : Contact) (k : ℕ) → T (ofDemand t anyList (Suffix c k)) → (k ≤ length (traceOf t c)) × (k ≤ mostSamples)
+  within c k h = let l = suffix-in t c c k h .1 in (l, omega (arith, l, short c))
 
-module _ (t : Trace) where
-  pub tail-means : (r : Option Outcome) → OfKind t list r → tailOf (contentOf r) ≡ contentOf (withValue Failed r (operated t tl))
+  module _ (bytes : List ℕ) (says : SaysTraces t bytes) where
+    -- hd of a suffix reads the trace that its number says
+    head-there : (c : Contact) (k : ℕ) → k ≤ mostSamples
+        → headOf bytes (length (t .ofRam)) (length (t .ofGuard)) (workingOf (Suffix c k)) ≡ headBy bytes (bytesFrom c) (length (traceOf t c)) k
+    head-there Ram k h = simp (le-ltb (5 + k) 5 (omega arith), lt-ltb (5 + k) 8197 (omega arith), suffix-code 5 k)
+    head-there Guard k h = simp (le-ltb (8197 + k) 5 (omega arith), le-ltb (8197 + k) 8197 (omega arith), suffix-code 8197 k)
+
+    head-sample : (c : Contact) (k : ℕ) → suc k ≤ length (traceOf t c)
+        → headBy bytes (bytesFrom c) (length (traceOf t c)) (suc k) ≡ workingOf (Truth (getD (traceOf t c) (length (traceOf t c) - suc k) false))
+    head-sample c k h =
+        simp (ne-eqb (suc k) 0 (λ z. omega arith), le-ltb (length (traceOf t c)) (suc k) h)
+        (says c (length (traceOf t c) - suc k) (omega arith) ∙ truth-code (getD (traceOf t c) (length (traceOf t c) - suc k) false))
+
+    pub head-means : (r : Option Outcome) → OfDemand t anyList r
+        → headOf bytes (length (t .ofRam)) (length (t .ofGuard)) (workingContent r) ≡ workingContent (withValue Failed r (operated t hd))
+    head-means none h = refl
+    head-means (some (Truth b)) h = absurd (h (Truth b) refl)
+    head-means (some (Suffix c zero)) h = head-there c zero (omega arith)
+    head-means (some (Suffix c (suc k))) h =
+        let l = within c (suc k) (h (Suffix c (suc k)) refl) in
+        head-there c (suc k) (l .1) ∙ head-sample c k (l .0)
+    head-means (some (Failed Head)) h = refl
+    head-means (some (Failed Tail)) h = refl
+
+  pub tail-means : (r : Option Outcome) → OfDemand t anyList r → tailOf (workingContent r) ≡ workingContent (withValue Failed r (operated t tl))
   tail-means none h = refl
   tail-means (some (Truth b)) h = absurd (h (Truth b) refl)
-  tail-means (some (Suffix zero)) h = refl
-  tail-means (some (Suffix (suc k))) h = simp (le-ltb (5 + suc k) 5 (omega arith), ne-eqb (5 + suc k) 5 (λ z. omega arith)) (omega arith)
+  tail-means (some (Suffix c zero)) h = rw (le-ltb _ _ (suffix-least c zero), is-empty c)
+  tail-means (some (Suffix c (suc k))) h =
+      rw (le-ltb _ _ (suffix-least c (suc k)), not-empty c k (within c (suc k) (h (Suffix c (suc k)) refl) .1)) (one-less c k)
   tail-means (some (Failed Head)) h = refl
   tail-means (some (Failed Tail)) h = refl
 
-  pub null-means : (r : Option Outcome) → OfKind t list r → nullOf (contentOf r) ≡ contentOf (withValue Failed r (operated t null))
+  pub null-means : (r : Option Outcome) → OfDemand t anyList r → nullOf (workingContent r) ≡ workingContent (withValue Failed r (operated t null))
   null-means none h = refl
   null-means (some (Truth b)) h = absurd (h (Truth b) refl)
-  null-means (some (Suffix zero)) h = refl
-  null-means (some (Suffix (suc k))) h = simp (le-ltb (5 + suc k) 5 (omega arith), ne-eqb (5 + suc k) 5 (λ z. omega arith))
+  null-means (some (Suffix c zero)) h = rw (le-ltb _ _ (suffix-least c zero), is-empty c)
+  null-means (some (Suffix c (suc k))) h =
+      rw (le-ltb _ _ (suffix-least c (suc k)), not-empty c k (within c (suc k) (h (Suffix c (suc k)) refl) .1))
   null-means (some (Failed Head)) h = refl
   null-means (some (Failed Tail)) h = refl
 
 -- ---- Values
 
-pub radix-means : (t : Trace) (κ : Kind) → radixOf (isList κ) (length t) ≡ kindSize t κ
-radix-means t truth = refl
-radix-means t list = omega arith
+pub radix-means : {t : Traces} {n : Lengths} → LengthsOf t n → (κ : Kind) → radixOf (kindNumber κ) n ≡ kindSize t κ
+radix-means ls truth = refl
+radix-means ls (list Ram) = omega (arith, ls .ram)
+radix-means ls (list Guard) = omega (arith, ls .guard)
 
--- the number of a value is as far above the lowest of its kind as its digit says
-pub value-digit : (t : Trace) (κ : Kind) (v : Value) → T (inKind t κ v) → codeOf (given v) - lowestCode (isList κ) ≡ digitOf v
-value-digit t truth (bit true) h = refl
-value-digit t truth (bit false) h = refl
-value-digit t truth (suffix k) h = absurd h
-value-digit t list (bit b) h = absurd h
-value-digit t list (suffix k) h = suffix-code k
+-- the number of a suffix, by the lowest of its kind
+suffix-lowest : (c : Contact) (k : ℕ) → workingOf (Suffix c k) ≡ lowestCode (kindNumber (list c)) + k
+suffix-lowest Ram k = refl
+suffix-lowest Guard k = refl
 
-own : (lowest radix c : ℕ) → lowest ≤ c → c - lowest < radix → foreign lowest radix c ≡ false
-own lowest radix c h l = simp (le-ltb c lowest h, lt-leb radix (c - lowest) l)
+own : (lowest radix k : ℕ) → k < radix → foreign lowest radix (lowest + k) ≡ false
+own lowest radix k h = simp (le-ltb (lowest + k) lowest (omega arith), suffix-code lowest k, lt-leb radix k h)
 
-pub value-own : (t : Trace) (κ : Kind) (v : Value) → T (inKind t κ v) → foreign (lowestCode (isList κ)) (kindSize t κ) (codeOf (given v)) ≡ false
-value-own t truth (bit true) h = refl
-value-own t truth (bit false) h = refl
-value-own t truth (suffix k) h = absurd h
-value-own t list (bit b) h = absurd h
-value-own t list (suffix k) h =
-    let l = leb→le k (length t) h in
-    own suffixCode (suc (length t)) (suffixCode + k) (omega arith) (omega arith)
+module _ (t : Traces) where
+  -- the number of a value is as far above the lowest of its kind as its digit says
+  pub value-digit : (κ : Kind) (v : Value) → T (inKind t κ v) → workingOf (given v) - lowestCode (kindNumber κ) ≡ digitOf v
+  value-digit truth (bit true) h = refl
+  value-digit truth (bit false) h = refl
+  value-digit truth (suffix c k) h = absurd h
+  value-digit (list c) (bit b) h = absurd h
+  value-digit (list c) (suffix c′ k) h =
+      rw (suffix-lowest c′ k, suffix-in t c c′ k h .0) (suffix-code (lowestCode (kindNumber (list c′))) k)
 
-pub none-foreign : (t : Trace) (κ : Kind) → foreign (lowestCode (isList κ)) (kindSize t κ) undecidedCode ≡ true
-none-foreign t truth = refl
-none-foreign t list = refl
+  pub value-own : (κ : Kind) (v : Value) → T (inKind t κ v) → foreign (lowestCode (kindNumber κ)) (kindSize t κ) (workingOf (given v)) ≡ false
+  value-own truth (bit true) h = refl
+  value-own truth (bit false) h = refl
+  value-own truth (suffix c k) h = absurd h
+  value-own (list c) (bit b) h = absurd h
+  value-own (list c) (suffix c′ k) h =
+      let p = suffix-in t c c′ k h in
+      rw (suffix-lowest c′ k, ← p .0) (own (lowestCode (kindNumber (list c))) (suc (length (traceOf t c))) k (omega (arith, p .1)))
 
-pub failed-foreign : (t : Trace) (κ : Kind) (x : Error) → foreign (lowestCode (isList κ)) (kindSize t κ) (codeOf (Failed x)) ≡ true
-failed-foreign t truth Head = refl
-failed-foreign t truth Tail = refl
-failed-foreign t list Head = refl
-failed-foreign t list Tail = refl
+  pub none-foreign : (κ : Kind) → foreign (lowestCode (kindNumber κ)) (kindSize t κ) undecidedCode ≡ true
+  none-foreign truth = refl
+  none-foreign (list Ram) = refl
+  none-foreign (list Guard) = refl
+
+  pub failed-foreign : (κ : Kind) (x : Error) → foreign (lowestCode (kindNumber κ)) (kindSize t κ) (workingOf (Failed x)) ≡ true
+  failed-foreign truth Head = refl
+  failed-foreign truth Tail = refl
+  failed-foreign (list Ram) Head = refl
+  failed-foreign (list Ram) Tail = refl
+  failed-foreign (list Guard) Head = refl
+  failed-foreign (list Guard) Tail = refl
 
 -- ---- What a cell holds
 
-decided-truth : (t : Trace) (cell : ℕ) → decidedCode falseCode tailCode cell ≡ contentOf (outcomeIn t truth cell)
+decided-truth : (t : Traces) (cell : ℕ) → decidedCode falseCode tailCode cell ≡ contentOf (outcomeIn t truth cell)
 unfolding outcomeIn
 decided-truth t zero = refl
 decided-truth t (suc zero) = refl
@@ -117,10 +208,11 @@ decided-truth t (suc (suc (suc (suc (suc k))))) =
     rw (le-ltb cell 1 (omega arith), lt-ltb 4 cell (omega arith))
 
 -- a list function's cell that is the number of a suffix
-decided-suffix : (n k cell : ℕ) → cell ≡ 5 + k → decidedCode headCode (n + suffixCode) cell ≡ contentOf (cond (leb k n) (some (Suffix k)) none)
-decided-suffix n k cell e = go (leb k n) refl
+decided-suffix : (c : Contact) (n k cell : ℕ) → cell ≡ 5 + k
+    → decidedCode headCode (n + suffixCode) cell ≡ contentOf (cond (leb k n) (some (Suffix c k)) none)
+decided-suffix c n k cell e = go (leb k n) refl
   where
-    go : (b : Bool) → leb k n ≡ b → decidedCode headCode (n + suffixCode) cell ≡ contentOf (cond b (some (Suffix k)) none)
+    go : (b : Bool) → leb k n ≡ b → decidedCode headCode (n + suffixCode) cell ≡ contentOf (cond b (some (Suffix c k)) none)
     go true h =
         let l = leb-true k n h in
         simp (le-ltb cell 3 (omega arith), le-ltb (n + 5) cell (omega arith)) e
@@ -128,16 +220,62 @@ decided-suffix n k cell e = go (leb k n) refl
         let l = leb-false k n h in
         simp (le-ltb cell 3 (omega arith), lt-ltb (n + 5) cell (omega arith))
 
-decided-list : (t : Trace) (cell : ℕ) → decidedCode headCode (length t + suffixCode) cell ≡ contentOf (outcomeIn t list cell)
+decided-list : (t : Traces) (c : Contact) (cell : ℕ)
+    → decidedCode headCode (length (traceOf t c) + suffixCode) cell ≡ contentOf (outcomeIn t (list c) cell)
 unfolding outcomeIn
-decided-list t zero = refl
-decided-list t (suc zero) = refl
-decided-list t (suc (suc zero)) = refl
-decided-list t (suc (suc (suc zero))) = simp (le-ltb (length t + 5) 3 (omega arith))
-decided-list t (suc (suc (suc (suc zero)))) = simp (le-ltb (length t + 5) 4 (omega arith))
-decided-list t (suc (suc (suc (suc (suc k))))) = decided-suffix (length t) k (suc (suc (suc (suc (suc k))))) (omega arith)
+decided-list t c zero = refl
+decided-list t c (suc zero) = refl
+decided-list t c (suc (suc zero)) = refl
+decided-list t c (suc (suc (suc zero))) = simp (le-ltb (length (traceOf t c) + 5) 3 (omega arith))
+decided-list t c (suc (suc (suc (suc zero)))) = simp (le-ltb (length (traceOf t c) + 5) 4 (omega arith))
+decided-list t c (suc (suc (suc (suc (suc k))))) =
+    rw (same-contact c) (decided-suffix c (length (traceOf t c)) k (suc (suc (suc (suc (suc k))))) (omega arith))
 
-pub decided-means : (t : Trace) (κ : Kind) (cell : ℕ)
-    → decidedCode (leastCode (isList κ)) (mostCode (isList κ) (length t)) cell ≡ contentOf (outcomeIn t κ cell)
-decided-means t truth cell = decided-truth t cell
-decided-means t list cell = decided-list t cell
+pub decided-means : {t : Traces} {n : Lengths} → LengthsOf t n → (κ : Kind) (cell : ℕ)
+    → decidedCode (leastCode (kindNumber κ)) (mostCode (kindNumber κ) n) cell ≡ contentOf (outcomeIn t κ cell)
+decided-means {t} ls truth cell = decided-truth t cell
+decided-means {t} ls (list Ram) cell = rw (ls .ram) (decided-list t Ram cell)
+decided-means {t} ls (list Guard) cell = rw (ls .guard) (decided-list t Guard cell)
+
+-- ---- Working numbers
+
+suffix-shifted : (c : Contact) (k : ℕ) → k ≤ mostSamples → workingBy (shiftOf (kindNumber (list c))) (suffixCode + k) ≡ workingOf (Suffix c k)
+suffix-shifted Ram k h = simp (le-ltb (5 + k) 5 (omega arith)) (omega arith)
+suffix-shifted Guard k h = simp (le-ltb (5 + k) 5 (omega arith)) (omega arith)
+
+suffix-cell : (c : Contact) (k : ℕ) → k ≤ mostSamples → cellCode (workingOf (Suffix c k)) ≡ suffixCode + k
+suffix-cell Ram k h = simp (lt-ltb (5 + k) 8197 (omega arith))
+suffix-cell Guard k h = simp (le-ltb (8197 + k) 8197 (omega arith)) (omega arith)
+
+module _ (t : Traces) (short : ShortTraces t) where
+  working-code : (κ : Kind) (o : Outcome) → T (ofKind t κ o) → workingBy (shiftOf (kindNumber κ)) (codeOf o) ≡ workingOf o
+  working-code κ (Truth false) h = refl
+  working-code κ (Truth true) h = refl
+  working-code truth (Suffix c k) h = absurd h
+  working-code (list c′) (Suffix c k) h = let p = suffix-in t c′ c k h in rw (p .0) (suffix-shifted c k (omega (arith, p .1, short c′)))
+  working-code κ (Failed Head) h = refl
+  working-code κ (Failed Tail) h = refl
+
+  pub working-means : (κ : Kind) (cell : ℕ)
+      → workingBy (shiftOf (kindNumber κ)) (contentOf (outcomeIn t κ cell)) ≡ workingContent (outcomeIn t κ cell)
+  working-means κ cell = go (outcomeIn t κ cell) refl
+    where
+      go : (r : Option Outcome) → outcomeIn t κ cell ≡ r → workingBy (shiftOf (kindNumber κ)) (contentOf r) ≡ workingContent r
+      go none e = refl
+      go (some o) e = working-code κ o (code-held t κ cell o e .1)
+
+  pub cell-working : (κ : Kind) (o : Outcome) → T (ofKind t κ o) → cellCode (workingOf o) ≡ codeOf o
+  cell-working κ (Truth false) h = refl
+  cell-working κ (Truth true) h = refl
+  cell-working truth (Suffix c k) h = absurd h
+  cell-working (list c′) (Suffix c k) h = let p = suffix-in t c′ c k h in suffix-cell c k (omega (arith, p .1, short c′))
+  cell-working κ (Failed Head) h = refl
+  cell-working κ (Failed Tail) h = refl
+
+pub working-not-zero : (o : Outcome) → workingOf o ≡ 0 → ⊥
+working-not-zero (Truth false) h = omega arith
+working-not-zero (Truth true) h = omega arith
+working-not-zero (Suffix Ram k) h = omega arith
+working-not-zero (Suffix Guard k) h = omega arith
+working-not-zero (Failed Head) h = omega arith
+working-not-zero (Failed Tail) h = omega arith

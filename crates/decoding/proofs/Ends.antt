@@ -17,25 +17,27 @@ use native.Mathlib.Omega.{arith}
 use lib.ListN.{length, getElem?, getD, set, drop, replicate, length-append, length-drop, length-set, length-replicate}
 use lib.Seq.{drop-drop, drop-append-seam, getD-drop, getD-set-same, getD-set-other}
 use borrow.Author.Tests.{lt-ltb}
-use Rattle.semantics.specs.Language.{Kind, truth, list, Op, hd, tl, null, Expr, constant, empty, param, op, ifte, call, Args, noArgs, arg, Function, Program, Meets, MeetAll}
+use Rattle.semantics.specs.declared.Contact.the-variants.{Ram, Guard}
+use Rattle.semantics.specs.declared.Sort.{Sort}
+use Rattle.semantics.specs.Language.{Kind, truth, Op, hd, tl, null, Expr, constant, empty, param, op, ifte, call, Args, noArgs, arg, Function, Program, Demand, only, operandDemand, Meets, MeetAll}
 use Rattle.syntax.specs.declared.Node.{Node}
 use Rattle.syntax.specs.Limits.{mostParams, mostBytes}
 use Rattle.rule.specs.Form.{opByte, encodeExpr, encodeArgs, Accepted}
 use Rattle.syntax.specs.Bytes.{nodeOf}
 use Rattle.rule.specs.Outline.{outlineOf}
-use Rattle.rule.proofs.NodeBytes.{opNode, node-false, node-true, node-empty, node-if, node-op, node-param, node-call}
+use Rattle.rule.proofs.NodeBytes.{opNode, node-false, node-true, node-empty, node-empty-guard, node-if, node-op, node-param, node-call}
 use Rattle.rule.proofs.Expressions.{place-below}
 use Rattle.rule.proofs.FunctionBytes.{expr-bytes}
 use Rattle.rule.proofs.WalkMeaning.{at-most-four}
 use Rattle.decoding.specs.Decoding.{endAt, endsAfter, argumentsOf, operandsOf, endBy, endsDown}
 use Rattle.rule.proofs.OutlineMeaning.{params-at}
 
--- an expression that meets a kind starts at a place; Γ are the kinds of its function's parameters
+-- an expression that meets a demand starts at a place; Γ are the kinds of its function's parameters
 pub record Starts (P : Program) (bytes : List ℕ) (at : ℕ) (e : Expr) : Type 0 where
   pub Γ : List Kind
-  pub κ : Kind
+  pub demand : Demand
   pub narrow : length Γ ≤ mostParams
-  pub meets : Meets P Γ κ e
+  pub meets : Meets P Γ demand e
   pub rest : List ℕ
   pub here : drop at bytes ≡ encodeExpr e ++ rest
 
@@ -69,11 +71,11 @@ starts-within bytes at e s =
 
 module _ (P : Program) (bytes : List ℕ) (short : length bytes ≤ mostBytes) (low : ℕ) (ends : List ℕ) (u : Ends P bytes low ends)
     (Γ : List Kind) (narrow : length Γ ≤ mostParams) where
-  operand : (κ : Kind) (e : Expr) (at : ℕ) (rest : List ℕ) → low ≤ at → Meets P Γ κ e → drop at bytes ≡ encodeExpr e ++ rest
+  operand : (q : Demand) (e : Expr) (at : ℕ) (rest : List ℕ) → low ≤ at → Meets P Γ q e → drop at bytes ≡ encodeExpr e ++ rest
       → (endAt ends at ≡ at + length (encodeExpr e)) × (drop (at + length (encodeExpr e)) bytes ≡ rest)
   unfolding endAt
-  operand κ e at rest h m d =
-      let s : Starts P bytes at e = record { Γ = Γ; κ = κ; narrow = narrow; meets = m; rest = rest; here = d } in
+  operand q e at rest h m d =
+      let s : Starts P bytes at e = record { Γ = Γ; demand = q; narrow = narrow; meets = m; rest = rest; here = d } in
       (rw (lt-ltb at mostBytes (omega (arith, starts-within bytes at e s))) (u .right at e h s), after bytes at (encodeExpr e) rest d)
 
   -- an operand stands at a place of the program, and some bytes after it
@@ -82,11 +84,11 @@ module _ (P : Program) (bytes : List ℕ) (short : length bytes ≤ mostBytes) (
     pub above : low ≤ endAt ends at
     pub rest : drop (endAt ends at) bytes ≡ later
 
-  pub after-operand : (κ : Kind) (e : Expr) (at : ℕ) (rest : List ℕ) → low ≤ at → Meets P Γ κ e → drop at bytes ≡ encodeExpr e ++ rest
+  pub after-operand : (q : Demand) (e : Expr) (at : ℕ) (rest : List ℕ) → low ≤ at → Meets P Γ q e → drop at bytes ≡ encodeExpr e ++ rest
       → After at rest
-  after-operand κ e at rest h m d =
-      let o = operand κ e at rest h m d in
-      let s : Starts P bytes at e = record { Γ = Γ; κ = κ; narrow = narrow; meets = m; rest = rest; here = d } in
+  after-operand q e at rest h m d =
+      let o = operand q e at rest h m d in
+      let s : Starts P bytes at e = record { Γ = Γ; demand = q; narrow = narrow; meets = m; rest = rest; here = d } in
       record { within = starts-within bytes at e s; above = omega (arith, o .0); rest = rw (o .0) (o .1) }
 
   operands : (xs : Args) (κs : List Kind) (at : ℕ) (rest : List ℕ) → low ≤ at → MeetAll P Γ κs xs → drop at bytes ≡ encodeArgs xs ++ rest
@@ -94,7 +96,7 @@ module _ (P : Program) (bytes : List ℕ) (short : length bytes ≤ mostBytes) (
   unfolding endsAfter encodeArgs
   operands noArgs κs at rest h m d = rw m (omega arith)
   operands (arg e xs) κs at rest h m d =
-      let first = operand (m .0) e at (encodeArgs xs ++ rest) h (m .3) (d ∙ append-assoc (encodeExpr e) (encodeArgs xs) rest) in
+      let first = operand (only (m .0)) e at (encodeArgs xs ++ rest) h (m .3) (d ∙ append-assoc (encodeExpr e) (encodeArgs xs) rest) in
       let later = operands xs (m .1) (at + length (encodeExpr e)) rest (omega arith) (m .4) (first .1) in
       let sum : at + length (encodeExpr e) + length (encodeArgs xs) ≡ at + length (encodeExpr e ++ encodeArgs xs) =
       omega (arith, length-append (encodeExpr e) (encodeArgs xs)) in
@@ -103,45 +105,45 @@ module _ (P : Program) (bytes : List ℕ) (short : length bytes ≤ mostBytes) (
 -- ---- The expression at a place, by the ends after it
 
 -- how many arguments a call has
-pub arguments-mean : {bytes : List ℕ} {P : Program} → Accepted bytes P → (g : ℕ) (f : Function) → getElem? P g ≡ some f
-    → argumentsOf (outlineOf P .params) g ≡ length (f .params)
-arguments-mean {P = P} a g f e =
-    rw (lt-ltb g 32 (omega (arith, place-below P g f e, a .few)), params-at P g f e) (at-most-four (length (f .params)) (a .fits g f e .params))
+pub arguments-mean : {bytes : List ℕ} {s : Sort} {P : Program} → Accepted bytes s P → (g : ℕ) (f : Function) → getElem? P g ≡ some f
+    → argumentsOf (outlineOf s P .params) g ≡ length (f .params)
+arguments-mean {s = s} {P = P} a g f e =
+    rw (lt-ltb g 32 (omega (arith, place-below P g f e, a .few)), params-at s P g f e) (at-most-four (length (f .params)) (a .fits g f e .params))
 
-module _ {bytes : List ℕ} {P : Program} (a : Accepted bytes P) (ends : List ℕ) (at : ℕ) where
+module _ {bytes : List ℕ} {s : Sort} {P : Program} (a : Accepted bytes s P) (ends : List ℕ) (at : ℕ) where
   -- by the node that stands there
   by-node : (b : ℕ) (bs : List ℕ) (n : Node) → drop at bytes ≡ b ∷ bs → nodeOf b ≡ n
-      → endBy bytes (outlineOf P .params) ends at ≡ endsAfter ends (operandsOf (outlineOf P .params) n) (at + 1)
+      → endBy bytes (outlineOf s P .params) ends at ≡ endsAfter ends (operandsOf (outlineOf s P .params) n) (at + 1)
   unfolding endBy
   by-node b bs n d e =
-      ap (λ (x : Node). endsAfter ends (operandsOf (outlineOf P .params) x) (at + 1))
+      ap (λ (x : Node). endsAfter ends (operandsOf (outlineOf s P .params) x) (at + 1))
       (ap nodeOf (byte-here bytes at d) ∙ e)
 
   module _ (u : Ends P bytes (at + 1) ends) (Γ : List Kind) (narrow : length Γ ≤ mostParams) (rest : List ℕ) where
-    op-end : (p : Op) (e : Expr) → Meets P Γ list e → drop at bytes ≡ opByte p ∷ (encodeExpr e ++ rest)
-        → endBy bytes (outlineOf P .params) ends at ≡ at + 1 + length (encodeExpr e)
+    op-end : (p : Op) (q : Demand) (e : Expr) → Meets P Γ q e → drop at bytes ≡ opByte p ∷ (encodeExpr e ++ rest)
+        → endBy bytes (outlineOf s P .params) ends at ≡ at + 1 + length (encodeExpr e)
     unfolding endsAfter
-    op-end p e m d =
+    op-end p q e m d =
         by-node _ _ _ d (node-op p) ∙ one p
-        ∙ operand P bytes (a .short) (at + 1) ends u Γ narrow list e (at + 1) rest (omega arith) m (bytes-after bytes at d) .0
+        ∙ operand P bytes (a .short) (at + 1) ends u Γ narrow q e (at + 1) rest (omega arith) m (bytes-after bytes at d) .0
       where
-        one : (q : Op) → endsAfter ends (operandsOf (outlineOf P .params) (opNode q)) (at + 1) ≡ endAt ends (at + 1)
+        one : (o : Op) → endsAfter ends (operandsOf (outlineOf s P .params) (opNode o)) (at + 1) ≡ endAt ends (at + 1)
         one hd = refl
         one tl = refl
         one null = refl
 
-    if-end : (κ : Kind) (c x y : Expr) → Meets P Γ truth c → Meets P Γ κ x → Meets P Γ κ y
+    if-end : (q : Demand) (c x y : Expr) → Meets P Γ (only truth) c → Meets P Γ q x → Meets P Γ q y
         → drop at bytes ≡ 0x23 ∷ (encodeExpr c ++ (encodeExpr x ++ (encodeExpr y ++ rest)))
-        → endBy bytes (outlineOf P .params) ends at
+        → endBy bytes (outlineOf s P .params) ends at
         ≡ at + 1 + length (encodeExpr c) + length (encodeExpr x) + length (encodeExpr y)
     unfolding endsAfter
-    if-end κ c x y mc mx my d =
+    if-end q c x y mc mx my d =
         let at₁ = at + 1 in
         let at₂ = at₁ + length (encodeExpr c) in
         let at₃ = at₂ + length (encodeExpr x) in
-        let first = operand P bytes (a .short) (at + 1) ends u Γ narrow truth c at₁ _ (omega arith) mc (bytes-after bytes at d) in
-        let second = operand P bytes (a .short) (at + 1) ends u Γ narrow κ x at₂ _ (omega arith) mx (first .1) in
-        let third = operand P bytes (a .short) (at + 1) ends u Γ narrow κ y at₃ _ (omega arith) my (second .1) in
+        let first = operand P bytes (a .short) (at + 1) ends u Γ narrow (only truth) c at₁ _ (omega arith) mc (bytes-after bytes at d) in
+        let second = operand P bytes (a .short) (at + 1) ends u Γ narrow q x at₂ _ (omega arith) mx (first .1) in
+        let third = operand P bytes (a .short) (at + 1) ends u Γ narrow q y at₃ _ (omega arith) my (second .1) in
         by-node _ _ _ d node-if
         ∙ ap (λ (p : ℕ). endAt ends (endAt ends p)) (first .0)
         ∙ ap (endAt ends) (second .0)
@@ -149,52 +151,54 @@ module _ {bytes : List ℕ} {P : Program} (a : Accepted bytes P) (ends : List �
 
     call-end : (g : ℕ) (f : Function) (xs : Args) → getElem? P g ≡ some f → MeetAll P Γ (f .params) xs
         → drop at bytes ≡ (0x80 + g) ∷ (encodeArgs xs ++ rest)
-        → endBy bytes (outlineOf P .params) ends at ≡ at + 1 + length (encodeArgs xs)
+        → endBy bytes (outlineOf s P .params) ends at ≡ at + 1 + length (encodeArgs xs)
     call-end g f xs e m d =
         by-node _ _ _ d (node-call {g = g} (omega (arith, place-below P g f e, a .few)))
         ∙ ap (λ (n : ℕ). endsAfter ends n (at + 1)) (arguments-mean a g f e)
         ∙ operands P bytes (a .short) (at + 1) ends u Γ narrow xs (f .params) (at + 1) rest (omega arith) m (bytes-after bytes at d)
 
   node-end : Ends P bytes (at + 1) ends → (e : Expr) → Starts P bytes at e
-      → endBy bytes (outlineOf P .params) ends at ≡ at + length (encodeExpr e)
+      → endBy bytes (outlineOf s P .params) ends at ≡ at + length (encodeExpr e)
   unfolding endsAfter encodeExpr
-  node-end u (constant false) s = by-node _ _ _ (s .here) node-false
-  node-end u (constant true) s = by-node _ _ _ (s .here) node-true
-  node-end u empty s = by-node _ _ _ (s .here) node-empty
-  node-end u (param i) s = by-node _ _ _ (s .here) (node-param {i = i} (omega (arith, place-below (s .Γ) i (s .κ) (s .meets), s .narrow)))
-  node-end u (op p e) s = op-end u (s .Γ) (s .narrow) (s .rest) p e (s .meets .1) (s .here) ∙ omega arith
-  node-end u (ifte c x y) s =
+  node-end u (constant false) z = by-node _ _ _ (z .here) node-false
+  node-end u (constant true) z = by-node _ _ _ (z .here) node-true
+  node-end u (empty Ram) z = by-node _ _ _ (z .here) node-empty
+  node-end u (empty Guard) z = by-node _ _ _ (z .here) node-empty-guard
+  node-end u (param i) z =
+      by-node _ _ _ (z .here) (node-param {i = i} (omega (arith, place-below (z .Γ) i (z .meets .0) (z .meets .1), z .narrow)))
+  node-end u (op p e) z = op-end u (z .Γ) (z .narrow) (z .rest) p (operandDemand p (z .demand)) e (z .meets .1) (z .here) ∙ omega arith
+  node-end u (ifte c x y) z =
       let sum : at + 1 + length (encodeExpr c) + length (encodeExpr x) + length (encodeExpr y)
       ≡ at + suc (length (encodeExpr c ++ (encodeExpr x ++ encodeExpr y)))
       = simp length-append (omega arith) in
-      if-end u (s .Γ) (s .narrow) (s .rest) (s .κ) c x y (s .meets .0) (s .meets .1) (s .meets .2) (simp append-assoc at (s .here)) ∙ sum
-  node-end u (call g xs) s = call-end u (s .Γ) (s .narrow) (s .rest) g (s .meets .0) xs (s .meets .1) (s .meets .3) (s .here) ∙ omega arith
+      if-end u (z .Γ) (z .narrow) (z .rest) (z .demand) c x y (z .meets .0) (z .meets .1) (z .meets .2) (simp append-assoc at (z .here)) ∙ sum
+  node-end u (call g xs) z = call-end u (z .Γ) (z .narrow) (z .rest) g (z .meets .0) xs (z .meets .1) (z .meets .3) (z .here) ∙ omega arith
 
 -- ---- From the last place down
 
 -- one more end
-ends-one : {bytes : List ℕ} {P : Program} → Accepted bytes P → (at : ℕ) (later : List ℕ) → at < mostBytes → Ends P bytes (at + 1) later
-    → Ends P bytes at (set later at (endBy bytes (outlineOf P .params) later at))
-ends-one {bytes} {P} a at later h u =
-    let end = endBy bytes (outlineOf P .params) later at in
+ends-one : {bytes : List ℕ} {s : Sort} {P : Program} → Accepted bytes s P → (at : ℕ) (later : List ℕ) → at < mostBytes → Ends P bytes (at + 1) later
+    → Ends P bytes at (set later at (endBy bytes (outlineOf s P .params) later at))
+ends-one {bytes} {s} {P} a at later h u =
+    let end = endBy bytes (outlineOf s P .params) later at in
     record {
       long = length-set later at end ∙ u .long;
-      right = λ p e l s. ⊎-elim
-          (λ q. rw (← q) (getD-set-same later at end 0 (omega (arith, u .long)) ∙ node-end a later at u e (rw (← q) at s)))
-          (λ q. getD-set-other later at p end 0 (λ same. omega arith) ∙ u .right p e (omega arith) s)
+      right = λ p e l z. ⊎-elim
+          (λ q. rw (← q) (getD-set-same later at end 0 (omega (arith, u .long)) ∙ node-end a later at u e (rw (← q) at z)))
+          (λ q. getD-set-other later at p end 0 (λ same. omega arith) ∙ u .right p e (omega arith) z)
           (eq-or-lt-of-le l);
     }
 
-module _ {bytes : List ℕ} {P : Program} (a : Accepted bytes P) (z : List ℕ) (long : length z ≡ mostBytes) where
+module _ {bytes : List ℕ} {s : Sort} {P : Program} (a : Accepted bytes s P) (z : List ℕ) (long : length z ≡ mostBytes) where
   -- the ends that the first k turns leave
-  ends-upto : (k at : ℕ) → at + k ≡ length bytes → Ends P bytes at (endsDown bytes (outlineOf P .params) k at z)
+  ends-upto : (k at : ℕ) → at + k ≡ length bytes → Ends P bytes at (endsDown bytes (outlineOf s P .params) k at z)
   unfolding endsDown
-  ends-upto zero at e = record { long = long; right = λ p x h s. absurd (omega (arith, starts-within bytes p x s)) }
+  ends-upto zero at e = record { long = long; right = λ p x h y. absurd (omega (arith, starts-within bytes p x y)) }
   ends-upto (suc k) at e =
-      let later = endsDown bytes (outlineOf P .params) k (at + 1) z in
+      let later = endsDown bytes (outlineOf s P .params) k (at + 1) z in
       let u = ends-upto k (at + 1) (omega arith) in
       ends-one a at later (omega (arith, a .short)) u
 
-pub ends-mean : {bytes : List ℕ} {P : Program} → Accepted bytes P → (at : ℕ) → at ≤ length bytes
-    → Ends P bytes at (endsDown bytes (outlineOf P .params) (length bytes - at) at (replicate mostBytes 0))
+pub ends-mean : {bytes : List ℕ} {s : Sort} {P : Program} → Accepted bytes s P → (at : ℕ) → at ≤ length bytes
+    → Ends P bytes at (endsDown bytes (outlineOf s P .params) (length bytes - at) at (replicate mostBytes 0))
 ends-mean {bytes} a at h = ends-upto a (replicate mostBytes 0) (length-replicate {A = ℕ} mostBytes 0) (length bytes - at) at (omega arith)

@@ -8,23 +8,24 @@ use mathlib.Core.Path.{_≡_, _∙_}
 use mathlib.Core.List.{List}
 use lib.ListN.{length, getD, replicate}
 use borrow.Author.Tests.{ne-eqb}
-use Rattle.trace.specs.{bitOf}
 use Rattle.syntax.specs.Limits.{mostFunctions, mostBytes}
+use Rattle.syntax.specs.Kinds.{kindIn}
+use Rattle.codes.specs.declared.Lengths.{Lengths}
 use Rattle.decoding.specs.Words.{functionsFrom, stride, mostWords, functionWord, kindWord}
 use Rattle.decoding.specs.Decoding.{endsDown, wordBy, wordsDown, entryOf, entriesUpto, wordsFilled}
 use Rattle.decoding.proofs.Sweep.{words-above, word-there, entries-length, entry-there}
 
 -- ---- Entries
 
-module _ (functions : List ℕ) (n g : ℕ) where
-  function-entry : entryOf functions n (stride * g) ≡ functionWord (getD functions g 0) (bitOf 4 (getD functions (32 + g) 0)) n
+module _ (functions : List ℕ) (n : Lengths) (g : ℕ) where
+  function-entry : entryOf functions n (stride * g) ≡ functionWord (getD functions g 0) (kindIn (getD functions (32 + g) 0) 4) n
   unfolding entryOf
   function-entry =
       let which : stride * g / stride ≡ g = omega arith in
       let first : stride * g % stride ≡ 0 = omega arith in
       rw (which, first)
 
-  param-entry : (i : ℕ) → i < 4 → entryOf functions n (stride * g + 1 + i) ≡ kindWord (bitOf i (getD functions (32 + g) 0)) n
+  param-entry : (i : ℕ) → i < 4 → entryOf functions n (stride * g + 1 + i) ≡ kindWord (kindIn (getD functions (32 + g) 0) i) n
   unfolding entryOf
   param-entry i h =
       let which : (stride * g + 1 + i) / stride ≡ g = omega arith in
@@ -34,7 +35,7 @@ module _ (functions : List ℕ) (n g : ℕ) where
 
 -- ---- The words of a program and of its functions, written into as many
 
-module _ (code params functions : List ℕ) (count n : ℕ) (z : List ℕ) (long : length z ≡ mostWords) (short : length code ≤ mostBytes)
+module _ (code params functions : List ℕ) (count : ℕ) (n : Lengths) (z : List ℕ) (long : length z ≡ mostWords) (short : length code ≤ mostBytes)
     (few : count ≤ mostFunctions) where
   abbrev words : List ℕ
   words = wordsFilled code params functions count n z
@@ -61,11 +62,11 @@ module _ (code params functions : List ℕ) (count n : ℕ) (z : List ℕ) (long
       ∙ entry-there functions n (stride * count) z k (omega arith) h)
 
   pub function-filled : (g : ℕ) → g < count
-      → getD words (functionsFrom + stride * g) 0 ≡ functionWord (getD functions g 0) (bitOf 4 (getD functions (32 + g) 0)) n
+      → getD words (functionsFrom + stride * g) 0 ≡ functionWord (getD functions g 0) (kindIn (getD functions (32 + g) 0) 4) n
   function-filled g h = entry-filled (stride * g) (omega arith) ∙ function-entry functions n g
 
   pub param-filled : (g i : ℕ) → g < count → i < 4
-      → getD words (functionsFrom + stride * g + 1 + i) 0 ≡ kindWord (bitOf i (getD functions (32 + g) 0)) n
+      → getD words (functionsFrom + stride * g + 1 + i) 0 ≡ kindWord (kindIn (getD functions (32 + g) 0) i) n
   param-filled g i h l =
       let place : functionsFrom + stride * g + 1 + i ≡ functionsFrom + (stride * g + 1 + i) = omega arith in
       rw place (entry-filled (stride * g + 1 + i) (omega arith) ∙ param-entry functions n g i l)

@@ -11,6 +11,7 @@ use lib.ListN.{getD, set, replicate}
 use Rattle.syntax.specs.declared.Node.{Node}
 use Rattle.syntax.specs.Limits.{mostBytes}
 use Rattle.syntax.specs.Bytes.{nodeOf}
+use Rattle.codes.specs.declared.Lengths.{Lengths}
 use Rattle.decoding.specs.Words.{functionsFrom}
 use Rattle.decoding.specs.Decoding.{endAt, endsAfter, operandsOf, endBy, endsDown, decodedBy, wordBy, wordsDown, entryOf, entriesUpto}
 
@@ -63,7 +64,7 @@ module _ (code params words₀ : List ℕ) (len : ℕ) where
 
 -- ---- The words of functions
 
-module _ (functions : List ℕ) (n : ℕ) (words₀ : List ℕ) where
+module _ (functions : List ℕ) (n : Lengths) (words₀ : List ℕ) where
   -- the first k are written
   pub record Entered (W : List ℕ) (k : ℕ) : Type 0 where
     pub words : W ≡ entriesUpto functions n k words₀

@@ -2,15 +2,25 @@
 --   sort-packed, param-packed, callee-packed, count-packed,
 --   first-packed, second-packed, third-packed             the fields of a node
 --   place-0 to place-3                                    its places, as a call goes through them
---   first-in, held-in                                     a function's first cell, and what a cell of it holds
+--   constant-packed                                       the number of a constant
+--   least-small, shift-small, lowest-small                the numbers of a kind fit into their bits
+--   short-lengths                                        lengths of traces within the limit
+--   first-in, held-in, working-in                         a function's first cell, what a cell of it holds, and its working number
 --   values-in, lowest-in                                  a parameter's values
-use Prim.Native.Nat.{ℕ, _/_, _%_, _≤_}
+use Prim.Native.Nat.{ℕ, _/_, _%_, _<_, _≤_}
 use native.Mathlib.Omega.{arith}
 use mathlib.Core.Path.{_≡_}
-use mathlib.Core.Bool.{Bool, true, false}
+use mathlib.Core.Bool.{Bool, true, false, cond}
+use lib.Dec.{eqb}
 use Rattle.trace.specs.{mostSamples}
-use Rattle.codes.specs.{leastCode, mostCode, decidedCode, radixOf, lowestCode}
-use Rattle.decoding.specs.Words.{packed, sortOf, paramOf, calleeOf, countOf, placesOf, firstPlace, secondPlace, thirdPlace, functionWord, firstIn, leastIn, mostIn, heldIn, kindWord, valuesIn, lowestIn}
+use Rattle.semantics.specs.declared.Contact.the-variants.{Ram, Guard}
+use Rattle.semantics.specs.Language.{Traces}
+use Rattle.syntax.specs.Kinds.{truthKind, guardKind}
+use Rattle.codes.specs.declared.Lengths.{Lengths}
+use Rattle.codes.specs.{Short, lengthOf, leastCode, mostCode, decidedCode, shiftOf, workingBy, radixOf, lowestCode}
+use Rattle.codes.proofs.CodeMeaning.{ShortTraces, LengthsOf}
+use Rattle.decoding.specs.Words.{packed, sortOf, paramOf, calleeOf, countOf, placesOf, constantOf, firstPlace, secondPlace, thirdPlace, functionWord, firstIn, leastIn, shiftIn, mostIn, heldIn, workingIn, kindWord, valuesIn, lowestIn}
+use Rattle.decoding.specs.Decoding.{constantBy}
 
 -- ---- Nodes
 
@@ -62,33 +72,76 @@ module _ (sort small first second third fourth : ℕ) where
   unfolding packed
   place-3 = omega arith
 
+pub constant-packed : (c : ℕ) → c < 65536 → constantOf (constantBy c) ≡ c
+unfolding packed
+constant-packed c h = omega arith
+
+-- ---- The numbers of a kind
+
+-- what holds of both answers of a test
+both : (P : ℕ → Type 0) (b : Bool) {x y : ℕ} → P x → P y → P (cond b x y)
+both P true p q = p
+both P false p q = q
+
+pub least-small : (kind : ℕ) → leastCode kind < 256
+least-small kind = both (λ x. x < 256) (eqb kind truthKind) (omega arith) (omega arith)
+
+pub shift-small : (kind : ℕ) → shiftOf kind / 256 < 256
+shift-small kind = both (λ x. x / 256 < 256) (eqb kind guardKind) (omega arith) (omega arith)
+
+-- a shift is a multiple of 256
+shift-whole : (kind : ℕ) → shiftOf kind % 256 ≡ 0
+shift-whole kind = both (λ x. x % 256 ≡ 0) (eqb kind guardKind) (omega arith) (omega arith)
+
+pub lowest-small : (kind : ℕ) → lowestCode kind < 65536
+lowest-small kind =
+    both (λ x. x < 65536) (eqb kind truthKind) (omega arith) (both (λ x. x < 65536) (eqb kind guardKind) (omega arith) (omega arith))
+
+-- the lengths of traces that are not too long
+pub short-lengths : {t : Traces} {n : Lengths} → ShortTraces t → LengthsOf t n → Short n
+short-lengths short ls = (rw (ls .ram) (short Ram), rw (ls .guard) (short Guard))
+
+module _ (kind : ℕ) (n : Lengths) (short : Short n) where
+  length-small : lengthOf kind n ≤ mostSamples
+  length-small = both (λ x. x ≤ mostSamples) (eqb kind guardKind) (short .1) (short .0)
+
+  most-small : mostCode kind n < 65536
+  most-small = both (λ x. x < 65536) (eqb kind truthKind) (omega arith) (omega (arith, length-small))
+
+  radix-small : radixOf kind n < 65536
+  radix-small = both (λ x. x < 65536) (eqb kind truthKind) (omega arith) (omega (arith, length-small))
+
 -- ---- Functions
 
-pub first-in : (first : ℕ) (list : Bool) (n : ℕ) → firstIn (functionWord first list n) ≡ first % 4294967296
-unfolding functionWord
-first-in first true n = omega arith
-first-in first false n = omega arith
+module _ (first kind : ℕ) (n : Lengths) where
+  pub first-in : firstIn (functionWord first kind n) ≡ first % 4294967296
+  unfolding functionWord
+  first-in = omega arith
 
-least-in : (first : ℕ) (list : Bool) (n : ℕ) → leastIn (functionWord first list n) ≡ leastCode list
-unfolding functionWord
-least-in first true n = omega arith
-least-in first false n = omega arith
+  least-in : leastIn (functionWord first kind n) ≡ leastCode kind
+  unfolding functionWord
+  least-in = omega (arith, least-small kind)
 
-most-in : (first : ℕ) (list : Bool) (n : ℕ) → n ≤ mostSamples → mostIn (functionWord first list n) ≡ mostCode list n
-unfolding functionWord
-most-in first true n h = omega arith
-most-in first false n h = omega arith
+  shift-in : shiftIn (functionWord first kind n) ≡ shiftOf kind
+  unfolding functionWord
+  shift-in = omega (arith, least-small kind, shift-small kind, shift-whole kind)
 
-pub held-in : (first : ℕ) (list : Bool) (n cell : ℕ) → n ≤ mostSamples
-    → heldIn (functionWord first list n) cell ≡ decidedCode (leastCode list) (mostCode list n) cell
-held-in first list n cell h = rw (least-in first list n, most-in first list n h)
+  most-in : Short n → mostIn (functionWord first kind n) ≡ mostCode kind n
+  unfolding functionWord
+  most-in short = omega (arith, least-small kind, shift-small kind, most-small kind n short)
 
-pub values-in : (list : Bool) (n : ℕ) → n ≤ mostSamples → valuesIn (kindWord list n) ≡ radixOf list n
-unfolding kindWord
-values-in true n h = omega arith
-values-in false n h = omega arith
+  pub held-in : (cell : ℕ) → Short n → heldIn (functionWord first kind n) cell ≡ decidedCode (leastCode kind) (mostCode kind n) cell
+  held-in cell short = rw (least-in, most-in short)
 
-pub lowest-in : (list : Bool) (n : ℕ) → lowestIn (kindWord list n) ≡ lowestCode list
-unfolding kindWord
-lowest-in true n = omega arith
-lowest-in false n = omega arith
+  pub working-in : (cell : ℕ) → Short n
+      → workingIn (functionWord first kind n) cell ≡ workingBy (shiftOf kind) (decidedCode (leastCode kind) (mostCode kind n) cell)
+  working-in cell short = rw (shift-in, held-in cell short)
+
+module _ (kind : ℕ) (n : Lengths) where
+  pub values-in : Short n → valuesIn (kindWord kind n) ≡ radixOf kind n
+  unfolding kindWord
+  values-in short = omega (arith, radix-small kind n short)
+
+  pub lowest-in : lowestIn (kindWord kind n) ≡ lowestCode kind
+  unfolding kindWord
+  lowest-in = omega (arith, lowest-small kind)

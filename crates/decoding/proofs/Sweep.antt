@@ -10,6 +10,7 @@ use mathlib.Core.List.{List}
 use lib.ListN.{length, getD, set, length-set}
 use lib.Seq.{getD-set-same, getD-set-other}
 use Rattle.syntax.specs.Bytes.{nodeOf}
+use Rattle.codes.specs.declared.Lengths.{Lengths}
 use Rattle.decoding.specs.Words.{functionsFrom}
 use Rattle.decoding.specs.Decoding.{endsDown, decodedBy, wordBy, wordsDown, entryOf, entriesUpto}
 
@@ -85,7 +86,7 @@ module _ (code params ends : List ℕ) where
 
 -- ---- Functions
 
-module _ (functions : List ℕ) (n : ℕ) where
+module _ (functions : List ℕ) (n : Lengths) where
   pub entries-length : (m : ℕ) (words : List ℕ) → length (entriesUpto functions n m words) ≡ length words
   unfolding entriesUpto
   entries-length zero words = refl

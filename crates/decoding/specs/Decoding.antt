@@ -5,12 +5,14 @@ use mathlib.Core.Bool.{cond}
 use mathlib.Core.List.{List}
 use lib.Dec.{ltb, eqb}
 use lib.ListN.{length, getD, set, replicate}
-use Rattle.trace.specs.{bitOf}
 use Rattle.semantics.specs.Cells.{undecidedCode, falseCode, trueCode, suffixCode}
+use Rattle.codes.specs.declared.Lengths.{Lengths}
+use Rattle.codes.specs.{guardCode}
 use Rattle.syntax.specs.declared.Node.{Node}
 use Rattle.syntax.specs.declared.Node.the-variants as node
 use Rattle.syntax.specs.Limits.{mostFunctions, mostBytes}
 use Rattle.syntax.specs.Bytes.{nodeOf}
+use Rattle.syntax.specs.Kinds.{kindIn}
 use Rattle.rule.specs.Walk.{atMostFour}
 use Rattle.decoding.specs.Words.{constantSort, paramSort, headSort, tailSort, nullSort, headParamSort, tailParamSort, nullParamSort, ifSort, ifParamSort, ifNullSort, ifHeadSort, callSort, callOneSort, packed, sortOf, paramOf, functionsFrom, stride, functionWord, kindWord}
 
@@ -33,6 +35,7 @@ abbrev pub operandsOf : List ℕ → Node → ℕ
 operandsOf params node.False = 0
 operandsOf params node.True = 0
 operandsOf params node.Empty = 0
+operandsOf params node.EmptyGuard = 0
 operandsOf params (node.Param i) = 0
 operandsOf params node.Head = 1
 operandsOf params node.Tail = 1
@@ -55,7 +58,7 @@ endsDown code params (suc k) at ends = let later = endsDown code params k (at + 
 
 -- a constant, by the number of its outcome; that of undecided for a byte that is no node of a program
 abbrev pub constantBy : ℕ → ℕ
-constantBy c = packed constantSort 0 c 0 0 0
+constantBy c = packed constantSort 0 (c % 4096) (c / 4096) 0 0
 
 -- hd, tl or null, by the word of its operand
 abbrev pub unaryBy : ℕ → ℕ → ℕ → ℕ → ℕ
@@ -83,6 +86,7 @@ abbrev pub decodedBy : List ℕ → List ℕ → ℕ → ℕ → Node → ℕ
 decodedBy params ends first next node.False = constantBy falseCode
 decodedBy params ends first next node.True = constantBy trueCode
 decodedBy params ends first next node.Empty = constantBy suffixCode
+decodedBy params ends first next node.EmptyGuard = constantBy guardCode
 decodedBy params ends first next (node.Param i) = packed paramSort i 0 0 0 0
 decodedBy params ends first next node.Head = unaryBy headSort headParamSort first next
 decodedBy params ends first next node.Tail = unaryBy tailSort tailParamSort first next
@@ -105,14 +109,14 @@ wordsDown code params ends (suc k) at words =
 
 -- ---- Functions
 
--- word k of the functions: `functions` has first cells from 0 on and kinds bytes from 32 on
-unfoldable pub entryOf : List ℕ → ℕ → ℕ → ℕ
+-- word k of the functions: `functions` has first cells from 0 on and signatures from 32 on
+unfoldable pub entryOf : List ℕ → Lengths → ℕ → ℕ
 entryOf functions n k =
-    let kinds = getD functions (32 + k / stride) 0 in
-    cond (eqb (k % stride) 0) (functionWord (getD functions (k / stride) 0) (bitOf 4 kinds) n) (kindWord (bitOf (k % stride - 1) kinds) n)
+    let signature = getD functions (32 + k / stride) 0 in
+    cond (eqb (k % stride) 0) (functionWord (getD functions (k / stride) 0) (kindIn signature 4) n) (kindWord (kindIn signature (k % stride - 1)) n)
 
 -- the first so many words of functions written
-unfoldable pub entriesUpto : List ℕ → ℕ → ℕ → List ℕ → List ℕ
+unfoldable pub entriesUpto : List ℕ → Lengths → ℕ → List ℕ → List ℕ
 entriesUpto functions n zero words = words
 entriesUpto functions n (suc k) words = set (entriesUpto functions n k words) (functionsFrom + k) (entryOf functions n k)
 
@@ -120,7 +124,7 @@ entriesUpto functions n (suc k) words = set (entriesUpto functions n k words) (f
 
 -- words with those of a program and of so many functions, at most 32, written; a program's bytes beyond the longest are
 -- passed over
-unfoldable pub wordsFilled : List ℕ → List ℕ → List ℕ → ℕ → ℕ → List ℕ → List ℕ
+unfoldable pub wordsFilled : List ℕ → List ℕ → List ℕ → ℕ → Lengths → List ℕ → List ℕ
 wordsFilled program params functions count n words =
     wordsDown program params (replicate mostBytes 0) (min mostBytes (length program)) 0
     (entriesUpto functions n (stride * min count mostFunctions) words)

@@ -1,8 +1,8 @@
 -- A mirror of the code: how the words of an evaluation are made and read. No reader need believe it: proofs/ shows that what
 -- is put into a word is read from it.
 use Prim.Native.Nat.{ℕ, _+_, _*_, _/_, _%_}
-use mathlib.Core.Bool.{Bool}
-use Rattle.codes.specs.{leastCode, mostCode, decidedCode, radixOf, lowestCode}
+use Rattle.codes.specs.declared.Lengths.{Lengths}
+use Rattle.codes.specs.{leastCode, mostCode, decidedCode, shiftOf, workingBy, radixOf, lowestCode}
 
 -- ---- Nodes
 
@@ -52,7 +52,7 @@ callOneSort = 13
 
 -- A node's word: its sort in bits 0 to 3, a small number in bits 8 to 15, four places of 12 bits above. The small number
 -- is a parameter, or of a call the callee and 32 times the number of arguments. The places are those of the operands, in
--- their order; of a constant the first is its number.
+-- their order; of a constant the first two have its number, the lowest 12 bits in the first.
 unfoldable pub packed : ℕ → ℕ → ℕ → ℕ → ℕ → ℕ → ℕ
 packed sort small first second third fourth =
     sort % 16
@@ -81,6 +81,10 @@ placesOf w = w / 65536
 abbrev pub firstPlace : ℕ → ℕ
 firstPlace w = w / 65536 % 4096
 
+-- the number of a constant
+abbrev pub constantOf : ℕ → ℕ
+constantOf w = w / 65536 % 65536
+
 abbrev pub secondPlace : ℕ → ℕ
 secondPlace w = w / 268435456 % 4096
 
@@ -100,16 +104,23 @@ stride = 8
 abbrev pub mostWords : ℕ
 mostWords = 4352
 
--- the first cell of a function, in bits 0 to 31, and above it the least and the most number of an outcome of its kind
-unfoldable pub functionWord : ℕ → Bool → ℕ → ℕ
-functionWord first list n =
-    first % 4294967296 + leastCode list * 4294967296 + (mostCode list n % 65536) * 281474976710656
+-- the first cell of a function, in bits 0 to 31; above it the least number of an outcome of its kind in 8 bits, the shift of its
+-- kind in 8 bits, which has 256 times what stands there, and the most number of an outcome
+unfoldable pub functionWord : ℕ → ℕ → Lengths → ℕ
+functionWord first kind n =
+    first % 4294967296
+    + leastCode kind * 4294967296
+    + (shiftOf kind / 256) * 1099511627776
+    + (mostCode kind n % 65536) * 281474976710656
 
 abbrev pub firstIn : ℕ → ℕ
 firstIn w = w % 4294967296
 
 abbrev pub leastIn : ℕ → ℕ
-leastIn w = w / 4294967296 % 65536
+leastIn w = w / 4294967296 % 256
+
+abbrev pub shiftIn : ℕ → ℕ
+shiftIn w = w / 1099511627776 % 256 * 256
 
 abbrev pub mostIn : ℕ → ℕ
 mostIn w = w / 281474976710656
@@ -118,9 +129,13 @@ mostIn w = w / 281474976710656
 abbrev pub heldIn : ℕ → ℕ → ℕ
 heldIn w cell = decidedCode (leastIn w) (mostIn w) cell
 
+-- the working number of that
+abbrev pub workingIn : ℕ → ℕ → ℕ
+workingIn w cell = workingBy (shiftIn w) (heldIn w cell)
+
 -- how many values a parameter has, in bits 0 to 15, and above it the number of the first
-unfoldable pub kindWord : Bool → ℕ → ℕ
-kindWord list n = radixOf list n % 65536 + lowestCode list * 65536
+unfoldable pub kindWord : ℕ → Lengths → ℕ
+kindWord kind n = radixOf kind n % 65536 + lowestCode kind * 65536
 
 abbrev pub valuesIn : ℕ → ℕ
 valuesIn w = w % 65536

@@ -1,6 +1,7 @@
 // The words of functions: how they are made and read.
+use codes::Lengths;
 ghost use mathlib.Core.Path.{_≡_};
-ghost use Rattle.decoding.specs.Words.{functionWord, kindWord, firstIn, heldIn, valuesIn, lowestIn};
+ghost use Rattle.decoding.specs.Words.{functionWord, kindWord, firstIn, heldIn, workingIn, valuesIn, lowestIn};
 
 // Where the nodes end and the functions begin.
 pub const FUNCTIONS: usize = syntax::MOST_BYTES;
@@ -11,13 +12,15 @@ pub const STRIDE: usize = 8;
 // How many words there are: those of 32 functions after the nodes.
 pub const WORDS: usize = FUNCTIONS + STRIDE * 32;
 
-// A function: its first cell in bits 0 to 31, then the least and the most number of an outcome of its kind.
-pub fn function(first: u64, list: bool, n: u16) -> u64
-    ensures { λ r. ⌜ r ≡ functionWord first list n ⌝ }
+// A function: its first cell in bits 0 to 31, then the least number of an outcome of its kind in 8 bits, the shift of its kind,
+// divided by 256, in 8 bits, and the most number of an outcome.
+pub fn function(first: u64, kind: u8, n: Lengths) -> u64
+    ensures { λ r. ⌜ r ≡ functionWord first kind n ⌝ }
 {
     first % 4294967296
-        + codes::least(list) * 4294967296
-        + (codes::most(list, n) % 65536) * 281474976710656
+        + codes::least(kind) * 4294967296
+        + (codes::shift(kind) / 256) * 1099511627776
+        + (codes::most(kind, n) % 65536) * 281474976710656
 }
 
 // The first cell of a function.
@@ -32,17 +35,27 @@ pub fn held(function: u64, cell: u16) -> u16
     ensures { λ r. ⌜ r ≡ heldIn function cell ⌝ }
 {
     codes::decided(
-        ((function / 4294967296) % 65536) as u16,
+        ((function / 4294967296) % 256) as u16,
         (function / 281474976710656) as u16,
         cell,
     )
 }
 
-// A parameter: how many values it has in bits 0 to 15, and the number of the first in bits 16 to 31.
-pub fn kind(list: bool, n: u16) -> u64
-    ensures { λ r. ⌜ r ≡ kindWord list n ⌝ }
+// The working number of what it holds.
+pub fn working(function: u64, cell: u16) -> u16
+    ensures { λ r. ⌜ r ≡ workingIn function cell ⌝ }
 {
-    codes::radix(list, n) % 65536 + codes::lowest(list) * 65536
+    codes::working(
+        (((function / 1099511627776) % 256) * 256) as u16,
+        held(function, cell),
+    )
+}
+
+// A parameter: how many values it has in bits 0 to 15, and the number of the first in bits 16 to 31.
+pub fn kind(kind: u8, n: Lengths) -> u64
+    ensures { λ r. ⌜ r ≡ kindWord kind n ⌝ }
+{
+    codes::radix(kind, n) % 65536 + codes::lowest(kind) * 65536
 }
 
 // How many values a parameter has.

@@ -3,7 +3,7 @@ use crate::functions::WORDS;
 ghost use mathlib.Core.Path.{_≡_};
 ghost use Prim.Native.Nat.{_%_};
 ghost use lib.ListN.{getD};
-ghost use Rattle.decoding.specs.Words.{packed, sortOf, paramOf, calleeOf, countOf, placesOf, firstPlace, secondPlace, thirdPlace};
+ghost use Rattle.decoding.specs.Words.{packed, sortOf, paramOf, calleeOf, countOf, placesOf, constantOf, firstPlace, secondPlace, thirdPlace};
 
 // The sorts of decoded nodes. hd, tl and null of a parameter have sorts of their own; so has an if whose
 // condition is a parameter, or null or hd of one, and a call with one argument.
@@ -37,7 +37,7 @@ pub const CALL_ONE: u64 = 13;
 
 // A node: its sort in bits 0 to 3, a small number in bits 8 to 15, and four places of 12 bits. The small
 // number is a parameter, or of a call the callee and 32 times the number of arguments. The places are those
-// of the operands, in their order; of a constant the first is its number.
+// of the operands, in their order; of a constant the first two have its number, the lowest 12 bits in the first.
 pub fn node(sort: u64, small: u64, first: u16, second: u16, third: u16, fourth: u16) -> u64
     ensures { λ r. ⌜ r ≡ packed sort small first second third fourth ⌝ }
 {
@@ -79,9 +79,9 @@ pub fn count(node: u64) -> u64
 
 // The number of a constant.
 pub fn constant(node: u64) -> u16
-    ensures { λ r. ⌜ r ≡ firstPlace node ⌝ }
+    ensures { λ r. ⌜ r ≡ constantOf node ⌝ }
 {
-    ((node / 65536) % 4096) as u16
+    ((node / 65536) % 65536) as u16
 }
 
 // The places of a node's operands, the first in the lowest 12 bits.

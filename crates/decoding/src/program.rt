@@ -4,6 +4,7 @@ use crate::functions::FUNCTIONS;
 use crate::functions::STRIDE;
 use crate::functions::WORDS;
 use crate::nodes;
+use codes::Lengths;
 use syntax::Node;
 ghost use mathlib.Core.Path.{_≡_};
 ghost use Prim.Native.Nat.{_*_, _<_, _≤_, min};
@@ -17,14 +18,14 @@ ghost use Rattle.decoding.specs.Decoding.{decodedBy, entryOf, entriesUpt
 const PAST: u16 = syntax::MOST_BYTES as u16;
 
 // Writes the words of a program and of so many functions, at most 32. `functions` has their first cells from 0
-// on and their kinds bytes from 32 on; each has so many samples to work on. A program's bytes beyond the longest
-// are passed over.
+// on and their signatures from 32 on; `n` are the lengths of the traces. A program's bytes beyond the longest are passed
+// over.
 pub fn fill(
     program: &[u8],
     params: &[u8; 32],
     functions: &[u64; 96],
     count: u8,
-    n: u16,
+    n: Lengths,
     words: &mut [u64; WORDS],
 )
     ensures { λ _. ⌜ now (words .exit) ≡ wordsFilled (now (program .entry)) (now (params .entry)) (now (functions .entry)) count n (now (words .entry)) ⌝ }
@@ -34,7 +35,7 @@ pub fn fill(
 }
 
 // Writes the words of so many functions, at most 32.
-fn put_functions(functions: &[u64; 96], count: u8, n: u16, words: &mut [u64; WORDS])
+fn put_functions(functions: &[u64; 96], count: u8, n: Lengths, words: &mut [u64; WORDS])
     ensures { λ _. ⌜ now (words .exit) ≡ entriesUpto (now (functions .entry)) n (stride * min count mostFunctions) (now (words .entry)) ⌝ }
 {
     let last = STRIDE * codes::smaller(count as usize, syntax::MOST_FUNCTIONS as usize);
@@ -46,17 +47,17 @@ fn put_functions(functions: &[u64; 96], count: u8, n: u16, words: &mut [u64; WOR
 }
 
 // Word k of the functions.
-fn entry(functions: &[u64; 96], n: u16, k: usize) -> u64
+fn entry(functions: &[u64; 96], n: Lengths, k: usize) -> u64
     requires { ⌜ k < 256 ⌝ }
     ensures { λ r. ⌜ r ≡ entryOf (now (functions .entry)) n k ⌝ }
 {
     let g = k / STRIDE;
     let i = k % STRIDE;
-    let kinds = functions[32 + g];
+    let signature = functions[32 + g];
     if i == 0 {
-        return functions::function(functions[g], trace::bit(kinds, 4), n);
+        return functions::function(functions[g], syntax::kind_at(signature, 4), n);
     }
-    functions::kind(trace::bit(kinds, (i - 1) as u64), n)
+    functions::kind(syntax::kind_at(signature, (i - 1) as u64), n)
 }
 
 // Decodes a program from its last byte to its first, each node by those after it. Bytes that begin no
@@ -89,6 +90,7 @@ fn decoded(
         Node::False => constant(codes::FALSE),
         Node::True => constant(codes::TRUE),
         Node::Empty => constant(codes::SUFFIX),
+        Node::EmptyGuard => constant(codes::GUARD_SUFFIX),
         Node::Param(i) => nodes::node(nodes::PARAM, i as u64, 0, 0, 0, 0),
         Node::Head => unary(nodes::HEAD, nodes::HEAD_PARAM, first, next),
         Node::Tail => unary(nodes::TAIL, nodes::TAIL_PARAM, first, next),
@@ -104,7 +106,7 @@ fn decoded(
 fn constant(number: u16) -> u64
     ensures { λ r. ⌜ r ≡ constantBy number ⌝ }
 {
-    nodes::node(nodes::CONSTANT, 0, number, 0, 0, 0)
+    nodes::node(nodes::CONSTANT, 0, number % 4096, number / 4096, 0, 0)
 }
 
 // hd, tl or null, by the word of its operand.
@@ -185,6 +187,7 @@ fn operands(params: &[u8; 32], node: Node) -> u64
         Node::False => 0,
         Node::True => 0,
         Node::Empty => 0,
+        Node::EmptyGuard => 0,
         Node::Param(_) => 0,
         Node::Head => 1,
         Node::Tail => 1,

@@ -1,4 +1,4 @@
--- Evaluating, of document 01:
+-- Evaluating, of documents 01 and 02:
 --   Evaluate   what evaluating and a single pass answer, and what they leave in the table
 --   Rows       the rows of 'Programs tried'
 pub mod Evaluate

@@ -8,6 +8,7 @@ use lib.ListN.{length}
 use Rattle.refusal.specs.{numberOf}
 use Rattle.trace.specs.{pack}
 use Rattle.semantics.specs.Language.{Trace}
+use Rattle.semantics.specs.Handed.{oneTrace}
 use Rattle.semantics.specs.Verdicts.{verdictNumber}
 use Rattle.evaluate.specs.declared.Evaluated.{Evaluated}
 use Rattle.evaluate.specs.declared.Evaluated.the-variants as evaluated
@@ -61,7 +62,7 @@ sameAnswer (refusal x) (refusal y) = eqb x y
 
 -- evaluating gives a row its answer: its trace packed, so many cells lent
 abbrev pub gives : ℕ → Row → Bool
-gives lent r = sameAnswer (answerIn (evaluation (r .program) (pack (r .trace)) (length (r .trace)) lent)) (r .answer)
+gives lent r = sameAnswer (answerIn (evaluation (r .program) (oneTrace (pack (r .trace)) (length (r .trace))) lent)) (r .answer)
 
 abbrev pub allGive : ℕ → List Row → Bool
 allGive lent [] = true

@@ -2,45 +2,43 @@
 --   first-cell       the cell of a configuration, by its number in its function
 --   first-within     a function's cells lie among those of the program
 --   config-first     the configuration of a cell of a function
---   result-bit       a function's result kind, by its kinds byte
 --   held-means       the number of what a cell of a function holds
+--   held-working     the working number of it
 --   first-is         where a function's cells begin
 use Prim.Native.Nat.{ℕ, zero, suc, _+_, _≤_, _<_}
 use native.Mathlib.Nat.{mod-eq-of-lt}
 use native.Mathlib.Omega.{arith}
-use mathlib.Core.Path.{_≡_, sym, ap, _∙_}
+use mathlib.Core.Path.{_≡_, ap, _∙_}
 use mathlib.Core.List.{List, [], _∷_}
 use mathlib.Core.Option.{some}
-use lib.ListN.{length, getElem?}
-use Rattle.trace.specs.{bitOf}
-use Rattle.semantics.specs.Language.{Kind, isList, Function, Program, Trace, Value}
+use lib.ListN.{getElem?}
+use Rattle.semantics.specs.Language.{Function, Program, Traces, Value}
 use Rattle.semantics.specs.Numbering.{size, number, valuesAt, cells, cellOf, configAt}
 use Rattle.semantics.specs.Cells.{contentOf, outcomeIn}
 use Rattle.semantics.proofs.Numbering.{number-values, values-in, config-cell}
-use Rattle.syntax.specs.Limits.{mostParams}
-use Rattle.rule.specs.Form.{kindsByte}
-use Rattle.rule.proofs.KindBytes.{kinds-back}
-use Rattle.rule.proofs.WalkMeaning.{kind-bit}
-use Rattle.codes.proofs.CodeMeaning.{decided-means}
-use Rattle.decoding.specs.Words.{firstIn, heldIn}
-use Rattle.decoding.proofs.Packing.{first-in, held-in}
+use Rattle.syntax.specs.Kinds.{kindNumber}
+use Rattle.codes.specs.declared.Lengths.{Lengths}
+use Rattle.codes.specs.{shiftOf, workingBy}
+use Rattle.codes.proofs.CodeMeaning.{workingContent, decided-means, working-means}
+use Rattle.decoding.specs.Words.{firstIn, heldIn, workingIn}
+use Rattle.decoding.proofs.Packing.{short-lengths, first-in, held-in, working-in}
 use Rattle.evaluator.specs.{functionAt}
 use Rattle.evaluator.proofs.Sets.{firstCell, Sets}
 
 -- ---- Places of cells
 
-pub first-cell : (t : Trace) (P : Program) (g : ℕ) (f : Function) (vs : List Value) → getElem? P g ≡ some f
+pub first-cell : (t : Traces) (P : Program) (g : ℕ) (f : Function) (vs : List Value) → getElem? P g ≡ some f
     → cellOf t P g vs ≡ firstCell t P g + number t (f .params) vs
 first-cell t [] g f vs e = let z : _≡_ {A = ℕ} 0 1 = cc in absurd (omega arith)
 first-cell t (f₀ ∷ P) zero f vs e = let q : f₀ ≡ f = cc in rw q (omega arith)
 first-cell t (f₀ ∷ P) (suc g) f vs e = omega (arith, first-cell t P g f vs e)
 
-pub first-within : (t : Trace) (P : Program) (g : ℕ) (f : Function) → getElem? P g ≡ some f → firstCell t P g + size t (f .params) ≤ cells t P
+pub first-within : (t : Traces) (P : Program) (g : ℕ) (f : Function) → getElem? P g ≡ some f → firstCell t P g + size t (f .params) ≤ cells t P
 first-within t [] g f e = let z : _≡_ {A = ℕ} 0 1 = cc in absurd (omega arith)
 first-within t (f₀ ∷ P) zero f e = let q : f₀ ≡ f = cc in rw q (omega arith)
 first-within t (f₀ ∷ P) (suc g) f e = omega (arith, first-within t P g f e)
 
-pub config-first : (t : Trace) (P : Program) (g : ℕ) (f : Function) (i : ℕ) → getElem? P g ≡ some f → i < size t (f .params)
+pub config-first : (t : Traces) (P : Program) (g : ℕ) (f : Function) (i : ℕ) → getElem? P g ≡ some f → i < size t (f .params)
     → configAt t P (firstCell t P g + i) ≡ some (record { fun = f; args = valuesAt t (f .params) i })
 config-first t P g f i e h =
     let vs = valuesAt t (f .params) i in
@@ -49,17 +47,23 @@ config-first t P g f i e h =
 
 -- ---- What a cell holds
 
-pub result-bit : (params : List Kind) (result : Kind) → length params ≤ mostParams → bitOf 4 (kindsByte params result) ≡ isList result
-result-bit params result few = sym (kind-bit (kindsByte params result) 4) ∙ ap isList (kinds-back params result few .1)
-
-module _ {P : Program} {t : Trace} {bytes : List ℕ} {words trace : List ℕ} (s : Sets P t bytes words trace) (g : ℕ) (f : Function) (e : getElem? P g ≡ some f) where
+module _ {P : Program} {t : Traces} {n : Lengths} {bytes words traces : List ℕ} (s : Sets P t n bytes words traces) (g : ℕ) (f : Function)
+    (e : getElem? P g ≡ some f) where
   pub held-means : (cell : ℕ) → heldIn (functionAt words g) cell ≡ contentOf (outcomeIn t (f .result) cell)
   held-means cell =
       rw (s .function g f e)
-      (held-in (firstCell t P g) (isList (f .result)) (length t) cell (s .samples) ∙ decided-means t (f .result) cell)
+      (held-in (firstCell t P g) (kindNumber (f .result)) n cell (short-lengths (s .samples) (s .lengths))
+      ∙ decided-means (s .lengths) (f .result) cell)
+
+  pub held-working : (cell : ℕ) → workingIn (functionAt words g) cell ≡ workingContent (outcomeIn t (f .result) cell)
+  held-working cell =
+      rw (s .function g f e)
+      (working-in (firstCell t P g) (kindNumber (f .result)) n cell (short-lengths (s .samples) (s .lengths))
+      ∙ ap (λ (c : ℕ). workingBy (shiftOf (kindNumber (f .result))) c) (decided-means (s .lengths) (f .result) cell)
+      ∙ working-means t (s .samples) (f .result) cell)
 
   pub first-is : firstIn (functionAt words g) ≡ firstCell t P g
   first-is =
       rw (s .function g f e)
-      (first-in (firstCell t P g) (isList (f .result)) (length t)
+      (first-in (firstCell t P g) (kindNumber (f .result)) n
       ∙ mod-eq-of-lt (omega (arith, first-within t P g f e, s .fits)))

@@ -19,8 +19,8 @@ use native.Mathlib.Omega.{arith}
 use lib.Dec.{leb, ltb, eqb}
 use lib.ListN.{length, getD, List·getD-eq-default}
 use borrow.Author.Tests.{le-leb, lt-leb, ltb-true, ltb-false, eq-eqb, ne-eqb}
-use Rattle.codes.specs.{foreign}
-use Rattle.decoding.specs.Words.{sortOf, secondPlace, thirdPlace, functionsFrom, stride, firstIn, heldIn, leastIn, mostIn, valuesIn, lowestIn}
+use Rattle.codes.specs.{foreign, workingBy}
+use Rattle.decoding.specs.Words.{sortOf, secondPlace, thirdPlace, functionsFrom, stride, firstIn, leastIn, mostIn, shiftIn, workingIn, valuesIn, lowestIn}
 use Rattle.evaluator.specs.{functionAt, paramAt, digitBound, mostIndex, nextIndex, Digit, lookupBy, argsIn, sortBy, evalWord, evalAt, branchAt}
 
 -- a number that is none of the first so many
@@ -32,27 +32,27 @@ pub apart-above : (k n : ℕ) → Apart k n → k ≤ n
 apart-above zero n h = omega arith
 apart-above (suc k) n h = let l = apart-above k n (h .0) in let z = h .1 in omega arith
 
-module _ (W trace T env : List ℕ) (d w : ℕ) where
-  pub eval-deep : d ≡ 0 → evalWord W trace T env d w ≡ 0
+module _ (W traces T env : List ℕ) (d w : ℕ) where
+  pub eval-deep : d ≡ 0 → evalWord W traces T env d w ≡ 0
   unfolding evalWord
   eval-deep e = rw e
 
   pub eval-sort : (d ≡ 0 → ⊥) → {sort : ℕ} (k : ℕ) → sort ≡ sortOf w → sort ≡ k
-      → evalWord W trace T env d w ≡ sortBy W trace T env (evalAt W trace T env (d - 1)) w k
+      → evalWord W traces T env d w ≡ sortBy W traces T env (evalAt W traces T env (d - 1)) w k
   unfolding evalWord
   eval-sort z k e q = go d z
     where
       same : sortOf w ≡ k
       same = sym e ∙ q
 
-      go : (d : ℕ) → (d ≡ 0 → ⊥) → evalWord W trace T env d w ≡ sortBy W trace T env (evalAt W trace T env (d - 1)) w k
+      go : (d : ℕ) → (d ≡ 0 → ⊥) → evalWord W traces T env d w ≡ sortBy W traces T env (evalAt W traces T env (d - 1)) w k
       go zero z = absurd (z refl)
       go (suc d) z =
-          ap (λ (j : ℕ). sortBy W trace T env (evalAt W trace T env d) w j) same
-          ∙ ap (λ (j : ℕ). sortBy W trace T env (evalAt W trace T env j) w k) (sym (sub-one (suc d)))
+          ap (λ (j : ℕ). sortBy W traces T env (evalAt W traces T env d) w j) same
+          ∙ ap (λ (j : ℕ). sortBy W traces T env (evalAt W traces T env j) w k) (sym (sub-one (suc d)))
 
   -- a sort that no node has
-  pub eval-other : (d ≡ 0 → ⊥) → {sort : ℕ} → sort ≡ sortOf w → 14 ≤ sort → evalWord W trace T env d w ≡ 0
+  pub eval-other : (d ≡ 0 → ⊥) → {sort : ℕ} → sort ≡ sortOf w → 14 ≤ sort → evalWord W traces T env d w ≡ 0
   eval-other z {sort} e h =
       let apart : (k : ℕ) → k < 14 → eqb sort k ≡ false = λ k l. ne-eqb sort k (λ q. omega arith) in
       eval-sort z sort e refl
@@ -73,15 +73,15 @@ module _ (W trace T env : List ℕ) (d w : ℕ) where
         apart 13 (omega arith),
       )
 
-  pub branch-true : (c : ℕ) {v : ℕ} → c ≡ 2 → v ≡ getD W (secondPlace w) 0 → branchAt W trace T env d w c ≡ evalWord W trace T env d v
+  pub branch-true : (c : ℕ) {v : ℕ} → c ≡ 2 → v ≡ getD W (secondPlace w) 0 → branchAt W traces T env d w c ≡ evalWord W traces T env d v
   unfolding branchAt
   branch-true c e q = simp (eq-eqb _ _ e, q)
 
-  pub branch-false : (c : ℕ) {v : ℕ} → (c ≡ 2 → ⊥) → c ≡ 1 → v ≡ getD W (thirdPlace w) 0 → branchAt W trace T env d w c ≡ evalWord W trace T env d v
+  pub branch-false : (c : ℕ) {v : ℕ} → (c ≡ 2 → ⊥) → c ≡ 1 → v ≡ getD W (thirdPlace w) 0 → branchAt W traces T env d w c ≡ evalWord W traces T env d v
   unfolding branchAt
   branch-false c t e q = simp (ne-eqb _ _ t, eq-eqb _ _ e, q)
 
-  pub branch-other : (c : ℕ) → (c ≡ 2 → ⊥) → (c ≡ 1 → ⊥) → branchAt W trace T env d w c ≡ c
+  pub branch-other : (c : ℕ) → (c ≡ 2 → ⊥) → (c ≡ 1 → ⊥) → branchAt W traces T env d w c ≡ c
   unfolding branchAt
   branch-other c t f = simp (ne-eqb _ _ t, ne-eqb _ _ f)
 
@@ -208,14 +208,14 @@ lookup-is function T index h e = e ∙ ap (lookupBy function T) (mod-eq-of-lt h)
 -- ---- What the table holds
 
 module _ (function : ℕ) (T : List ℕ) (index : ℕ) where
-  held-none : heldIn function 0 ≡ 0
-  held-none = go (ltb 0 (leastIn function)) (ltb (mostIn function) 0)
+  working-none : workingIn function 0 ≡ 0
+  working-none = go (ltb 0 (leastIn function)) (ltb (mostIn function) 0)
     where
-      go : (b c : Bool) → _≡_ {A = ℕ} (cond b 0 (cond c 0 0)) 0
+      go : (b c : Bool) → workingBy (shiftIn function) (cond b 0 (cond c 0 0)) ≡ 0
       go true c = refl
       go false true = refl
       go false false = refl
 
   pub lookup-past : {first : ℕ} → first ≡ firstIn function → length T ≤ first + index → lookupBy function T index ≡ 0
   unfolding lookupBy
-  lookup-past e h = ap (heldIn function) (ap (λ (f : ℕ). getD T (f + index) 0) (sym e) ∙ List·getD-eq-default T 0 h) ∙ held-none
+  lookup-past e h = ap (workingIn function) (ap (λ (f : ℕ). getD T (f + index) 0) (sym e) ∙ List·getD-eq-default T 0 h) ∙ working-none

@@ -21,7 +21,7 @@ use Rattle.rule.proofs.NodeBytes.{opNode}
 use Rattle.decoding.specs.Words.{paramSort, headSort, tailSort, nullSort, headParamSort, tailParamSort, nullParamSort, ifSort, ifParamSort, ifNullSort, ifHeadSort, callSort, callOneSort}
 use Rattle.decoding.specs.Words.{packed, sortOf, paramOf, calleeOf, countOf, placesOf, firstPlace, thirdPlace}
 use Rattle.decoding.specs.Decoding.{endAt, constantBy, unaryBy, conditionalBy, placed, calledBy, decodedBy}
-use Rattle.decoding.proofs.Packing.{sort-packed, param-packed, callee-packed, count-packed, first-packed, second-packed, third-packed, place-0, place-1, place-2, place-3}
+use Rattle.decoding.proofs.Packing.{sort-packed, param-packed, callee-packed, count-packed, constant-packed, first-packed, second-packed, third-packed, place-0, place-1, place-2, place-3}
 use Rattle.evaluator.specs.{paramIn, headIn, branchBy, argsIn, sortBy, evalWord, evalAt}
 
 -- ---- Places in a word
@@ -66,9 +66,9 @@ module _ (ends : List ℕ) (sort small first : ℕ) where
 
 -- what an operation makes of the number of its operand
 abbrev pub opBy : List ℕ → List ℕ → Op → ℕ → ℕ
-opBy trace env hd c = headIn trace env c
-opBy trace env tl c = tailOf c
-opBy trace env null c = nullOf c
+opBy traces env hd c = headIn traces env c
+opBy traces env tl c = tailOf c
+opBy traces env null c = nullOf c
 
 -- the branch that an outcome chooses, by the places of the branches
 abbrev pub choice : (ℕ → ℕ) → ℕ → ℕ → ℕ → ℕ
@@ -79,20 +79,19 @@ param-small w = omega arith
 
 -- ---- Words
 
-module _ (W trace T env : List ℕ) where
+module _ (W traces T env : List ℕ) where
   -- the outcome of the word at a place
   abbrev there : ℕ → ℕ → ℕ
-  there d place = evalAt W trace T env d place
+  there d place = evalAt W traces T env d place
 
-  pub word-sort : (d w k : ℕ) → sortOf w ≡ k → evalWord W trace T env (suc d) w ≡ sortBy W trace T env (there d) w k
+  pub word-sort : (d w k : ℕ) → sortOf w ≡ k → evalWord W traces T env (suc d) w ≡ sortBy W traces T env (there d) w k
   unfolding evalWord
-  word-sort d w k e = ap (λ (j : ℕ). sortBy W trace T env (there d) w j) e
+  word-sort d w k e = ap (λ (j : ℕ). sortBy W traces T env (there d) w j) e
 
-  pub constant-word : (d c : ℕ) → c < 4096 → evalWord W trace T env (suc d) (constantBy c) ≡ c
-  constant-word d c h =
-      word-sort d (constantBy c) 0 (sort-packed 0 0 c 0 0 0) ∙ first-packed 0 0 c 0 0 0 ∙ mod-eq-of-lt h
+  pub constant-word : (d c : ℕ) → c < 65536 → evalWord W traces T env (suc d) (constantBy c) ≡ c
+  constant-word d c h = word-sort d (constantBy c) 0 (sort-packed 0 0 (c % 4096) (c / 4096) 0 0) ∙ constant-packed c h
 
-  pub param-word : (d i : ℕ) → i < 4 → evalWord W trace T env (suc d) (packed paramSort i 0 0 0 0) ≡ getD env i 0
+  pub param-word : (d i : ℕ) → i < 4 → evalWord W traces T env (suc d) (packed paramSort i 0 0 0 0) ≡ getD env i 0
   param-word d i h =
       word-sort d (packed paramSort i 0 0 0 0) 1 (sort-packed paramSort i 0 0 0 0)
       ∙ ap (λ (j : ℕ). getD env j 0) (param-packed paramSort i 0 0 0 0 ∙ mod-eq-of-lt h)
@@ -101,13 +100,13 @@ module _ (W trace T env : List ℕ) where
 
   -- an operation f that has the sort `plain`, and `fused` where its operand is a parameter
   module _ (plain fused : ℕ) (f : ℕ → ℕ)
-      (by-plain : (eval : ℕ → ℕ) (w : ℕ) → sortBy W trace T env eval w (plain % 16) ≡ f (eval (firstPlace w)))
-      (by-fused : (eval : ℕ → ℕ) (w : ℕ) → sortBy W trace T env eval w (fused % 16) ≡ f (paramIn env w)) where
-    unary-word : (d first : ℕ) → first < 4096 → evalWord W trace T env (suc (suc d)) (unaryBy plain fused first (getD W first 0)) ≡ f (there (suc d) first)
+      (by-plain : (eval : ℕ → ℕ) (w : ℕ) → sortBy W traces T env eval w (plain % 16) ≡ f (eval (firstPlace w)))
+      (by-fused : (eval : ℕ → ℕ) (w : ℕ) → sortBy W traces T env eval w (fused % 16) ≡ f (paramIn env w)) where
+    unary-word : (d first : ℕ) → first < 4096 → evalWord W traces T env (suc (suc d)) (unaryBy plain fused first (getD W first 0)) ≡ f (there (suc d) first)
     unary-word d first h = go (eqb (sortOf (getD W first 0)) paramSort) refl
       where
         go : (b : Bool) → eqb (sortOf (getD W first 0)) paramSort ≡ b
-            → evalWord W trace T env (suc (suc d)) (cond b (packed fused (paramOf (getD W first 0)) first 0 0 0) (packed plain 0 first 0 0 0))
+            → evalWord W traces T env (suc (suc d)) (cond b (packed fused (paramOf (getD W first 0)) first 0 0 0) (packed plain 0 first 0 0 0))
             ≡ f (there (suc d) first)
         go true e =
             let next = getD W first 0 in
@@ -123,8 +122,8 @@ module _ (W trace T env : List ℕ) where
             ∙ ap (λ (p : ℕ). f (there (suc d) p)) (first-packed plain 0 first 0 0 0 ∙ mod-eq-of-lt h)
 
   pub op-word : (params ends : List ℕ) (p : Op) (d first : ℕ) → first < 4096
-      → evalWord W trace T env (suc (suc d)) (decodedBy params ends first (getD W first 0) (opNode p)) ≡ opBy trace env p (there (suc d) first)
-  op-word params ends hd = unary-word headSort headParamSort (λ (c : ℕ). headIn trace env c) (λ eval w. refl) (λ eval w. refl)
+      → evalWord W traces T env (suc (suc d)) (decodedBy params ends first (getD W first 0) (opNode p)) ≡ opBy traces env p (there (suc d) first)
+  op-word params ends hd = unary-word headSort headParamSort (λ (c : ℕ). headIn traces env c) (λ eval w. refl) (λ eval w. refl)
   op-word params ends tl = unary-word tailSort tailParamSort (λ (c : ℕ). tailOf c) (λ eval w. refl) (λ eval w. refl)
   op-word params ends null = unary-word nullSort nullParamSort (λ (c : ℕ). nullOf c) (λ eval w. refl) (λ eval w. refl)
 
@@ -147,11 +146,11 @@ module _ (W trace T env : List ℕ) where
     eval = there (suc d)
 
     abbrev Chooses : ℕ → Type 0
-    Chooses sort = evalWord W trace T env (suc (suc d)) (word sort) ≡ choice eval then other (eval first)
+    Chooses sort = evalWord W traces T env (suc (suc d)) (word sort) ≡ choice eval then other (eval first)
 
     -- a word of a sort that chooses by what the condition gives
     chosen : (sort : ℕ)
-        → ((w : ℕ) → paramOf w ≡ paramOf condition → firstPlace w ≡ first → sortBy W trace T env eval w (sort % 16) ≡ branchBy eval w (eval first))
+        → ((w : ℕ) → paramOf w ≡ paramOf condition → firstPlace w ≡ first → sortBy W traces T env eval w (sort % 16) ≡ branchBy eval w (eval first))
         → Chooses sort
     chosen sort by =
         let p = paramOf condition in
@@ -164,8 +163,8 @@ module _ (W trace T env : List ℕ) where
 
     -- a condition of the sort `below`, f of a parameter, fused with its if to the sort `sort`
     fused : (sort below : ℕ) (f : ℕ → ℕ) → sortOf condition ≡ below
-        → ((w : ℕ) → sortBy W trace T env eval w (sort % 16) ≡ branchBy eval w (f (paramIn env w)))
-        → ((w : ℕ) → sortBy W trace T env (there d) w below ≡ f (paramIn env w))
+        → ((w : ℕ) → sortBy W traces T env eval w (sort % 16) ≡ branchBy eval w (f (paramIn env w)))
+        → ((w : ℕ) → sortBy W traces T env (there d) w below ≡ f (paramIn env w))
         → Chooses sort
     fused sort below f e above under =
         chosen sort
@@ -176,7 +175,7 @@ module _ (W trace T env : List ℕ) where
     plain = chosen ifSort (λ w i p. ap (λ (q : ℕ). branchBy eval w (eval q)) p)
 
     by-head : (b : Bool) → eqb (sortOf condition) headParamSort ≡ b → Chooses (cond b ifHeadSort ifSort)
-    by-head true e = fused ifHeadSort headParamSort (λ (v : ℕ). headIn trace env v) (eqb-true _ _ e) (λ w. refl) (λ w. refl)
+    by-head true e = fused ifHeadSort headParamSort (λ (v : ℕ). headIn traces env v) (eqb-true _ _ e) (λ w. refl) (λ w. refl)
     by-head false e = plain
 
     by-null : (b : Bool) → eqb (sortOf condition) nullParamSort ≡ b
@@ -216,7 +215,7 @@ module _ (W trace T env : List ℕ) where
     sorted sort = sort-packed sort small first (endAt ends first) (endAt ends (endAt ends first)) (endAt ends (endAt ends (endAt ends first)))
 
     abbrev Calls : ℕ → Type 0
-    Calls sort = evalWord W trace T env (suc d) (called sort) ≡ argsIn W T (there d) g count 0 0 (placesOf (called sort))
+    Calls sort = evalWord W traces T env (suc d) (called sort) ≡ argsIn W T (there d) g count 0 0 (placesOf (called sort))
 
     by-count : (b : Bool) → eqb count 1 ≡ b → Calls (cond b callOneSort callSort)
     by-count true e =
@@ -229,5 +228,5 @@ module _ (W trace T env : List ℕ) where
         ∙ ap (λ (c : ℕ). argsIn W T (there d) c (countOf (called callSort)) 0 0 (placesOf (called callSort))) (named callSort)
         ∙ ap (λ (c : ℕ). argsIn W T (there d) g c 0 0 (placesOf (called callSort))) (counted callSort)
 
-    pub call-word : evalWord W trace T env (suc d) (calledBy ends count g first) ≡ argsIn W T (there d) g count 0 0 (placesOf (calledBy ends count g first))
+    pub call-word : evalWord W traces T env (suc d) (calledBy ends count g first) ≡ argsIn W T (there d) g count 0 0 (placesOf (calledBy ends count g first))
     call-word = by-count (eqb count 1) refl

@@ -9,7 +9,7 @@ use lib.ListN.{getD}
 use Rattle.semantics.specs.Cells.{undecidedCode, falseCode, trueCode}
 use Rattle.codes.specs.{headOf, tailOf, nullOf, foreign}
 use Rattle.decoding.specs.Words.{constantSort, paramSort, headSort, tailSort, nullSort, headParamSort, tailParamSort, nullParamSort, ifSort, ifParamSort, ifNullSort, ifHeadSort, callSort, callOneSort}
-use Rattle.decoding.specs.Words.{sortOf, paramOf, calleeOf, countOf, placesOf, firstPlace, secondPlace, thirdPlace, functionsFrom, stride, firstIn, heldIn, valuesIn, lowestIn}
+use Rattle.decoding.specs.Words.{sortOf, paramOf, calleeOf, countOf, placesOf, constantOf, firstPlace, secondPlace, thirdPlace, functionsFrom, stride, firstIn, workingIn, valuesIn, lowestIn}
 
 -- ---- Functions
 
@@ -43,7 +43,7 @@ Digit kind c digit =
     × ((digit + lowestIn kind) % 2 ^ 64 ≡ c)
 
 unfoldable pub lookupBy : ℕ → List ℕ → ℕ → ℕ
-lookupBy function table index = heldIn function (getD table (firstIn function + index) 0)
+lookupBy function table index = workingIn function (getD table (firstIn function + index) 0)
 
 -- ---- Nodes
 
@@ -66,42 +66,42 @@ abbrev pub paramIn : List ℕ → ℕ → ℕ
 paramIn env w = getD env (paramOf w) 0
 
 abbrev pub headIn : List ℕ → List ℕ → ℕ → ℕ
-headIn trace env c = headOf trace (getD env 4 0) c
+headIn traces env c = headOf traces (getD env 4 0) (getD env 5 0) c
 
 -- a word of a sort; eval gives the outcome of the word at a place
 abbrev pub sortBy : List ℕ → List ℕ → List ℕ → List ℕ → (ℕ → ℕ) → ℕ → ℕ → ℕ
-sortBy words trace table env eval w sort =
-    cond (eqb sort constantSort) (firstPlace w)
+sortBy words traces table env eval w sort =
+    cond (eqb sort constantSort) (constantOf w)
     (cond (eqb sort paramSort) (paramIn env w)
-    (cond (eqb sort headSort) (headIn trace env (eval (firstPlace w)))
+    (cond (eqb sort headSort) (headIn traces env (eval (firstPlace w)))
     (cond (eqb sort tailSort) (tailOf (eval (firstPlace w)))
     (cond (eqb sort nullSort) (nullOf (eval (firstPlace w)))
-    (cond (eqb sort headParamSort) (headIn trace env (paramIn env w))
+    (cond (eqb sort headParamSort) (headIn traces env (paramIn env w))
     (cond (eqb sort tailParamSort) (tailOf (paramIn env w))
     (cond (eqb sort nullParamSort) (nullOf (paramIn env w))
     (cond (eqb sort ifSort) (branchBy eval w (eval (firstPlace w)))
     (cond (eqb sort ifParamSort) (branchBy eval w (paramIn env w))
     (cond (eqb sort ifNullSort) (branchBy eval w (nullOf (paramIn env w)))
-    (cond (eqb sort ifHeadSort) (branchBy eval w (headIn trace env (paramIn env w)))
+    (cond (eqb sort ifHeadSort) (branchBy eval w (headIn traces env (paramIn env w)))
     (cond (eqb sort callSort) (callBy words table eval w (countOf w))
     (cond (eqb sort callOneSort) (callBy words table eval w 1)
     undecidedCode)))))))))))))
 
 -- the number of the outcome of a word, with so much depth left; undecided where there is none
 unfoldable pub evalWord : List ℕ → List ℕ → List ℕ → List ℕ → ℕ → ℕ → ℕ
-evalWord words trace table env zero w = undecidedCode
-evalWord words trace table env (suc d) w =
-    sortBy words trace table env (λ (place : ℕ). evalWord words trace table env d (getD words place 0)) w (sortOf w)
+evalWord words traces table env zero w = undecidedCode
+evalWord words traces table env (suc d) w =
+    sortBy words traces table env (λ (place : ℕ). evalWord words traces table env d (getD words place 0)) w (sortOf w)
 
 -- and of the word at a place
 abbrev pub evalAt : List ℕ → List ℕ → List ℕ → List ℕ → ℕ → ℕ → ℕ
-evalAt words trace table env d place = evalWord words trace table env d (getD words place 0)
+evalAt words traces table env d place = evalWord words traces table env d (getD words place 0)
 
 unfoldable pub branchAt : List ℕ → List ℕ → List ℕ → List ℕ → ℕ → ℕ → ℕ → ℕ
-branchAt words trace table env d w chosen = branchBy (evalAt words trace table env d) w chosen
+branchAt words traces table env d w chosen = branchBy (evalAt words traces table env d) w chosen
 
 unfoldable pub callAt : List ℕ → List ℕ → List ℕ → List ℕ → ℕ → ℕ → ℕ
-callAt words trace table env d w = callBy words table (evalAt words trace table env d) w (countOf w)
+callAt words traces table env d w = callBy words table (evalAt words traces table env d) w (countOf w)
 
 unfoldable pub callOneAt : List ℕ → List ℕ → List ℕ → List ℕ → ℕ → ℕ → ℕ
-callOneAt words trace table env d w = callBy words table (evalAt words trace table env d) w 1
+callOneAt words traces table env d w = callBy words table (evalAt words traces table env d) w 1

@@ -1,5 +1,5 @@
 // The outcome of a decoded expression, with calls looked up in a table. Nodes and functions stand in one lent array, the
-// trace and the parameter values in others; an outcome is its number.
+// bytes of both traces and the parameter values in others; an outcome is its working number.
 use decoding::functions;
 use decoding::functions::FUNCTIONS;
 use decoding::functions::STRIDE;
@@ -15,13 +15,13 @@ ghost use Rattle.evaluator.specs.{digitBound, mostIndex, nextIndex, Digi
 // word. The sorts stand here by number, all sixteen, so that no range is tested.
 pub fn eval(
     words: &[u64; WORDS],
-    trace: &[u8; codes::TRACE_BYTES],
+    traces: &[u8; codes::TRACES_BYTES],
     table: &&[u16],
-    env: &[u16; 5],
+    env: &[u16; 6],
     depth: u8,
     node: u64,
 ) -> u16
-    ensures { λ r. ⌜ r ≡ evalWord (now (words .entry)) (now (trace .entry)) (now (now (table .entry))) (now (env .entry)) depth node ⌝ }
+    ensures { λ r. ⌜ r ≡ evalWord (now (words .entry)) (now (traces .entry)) (now (now (table .entry))) (now (env .entry)) depth node ⌝ }
 {
     if depth == 0 {
         return codes::UNDECIDED;
@@ -32,28 +32,29 @@ pub fn eval(
         0 => nodes::constant(node),
         1 => param(env, node),
         2 => codes::head(
-            trace,
+            traces,
             env[4],
-            operand(words, trace, table, env, left, nodes::first(words, node)),
+            env[5],
+            operand(words, traces, table, env, left, nodes::first(words, node)),
         ),
-        3 => codes::tail(operand(words, trace, table, env, left, nodes::first(words, node))),
-        4 => codes::null(operand(words, trace, table, env, left, nodes::first(words, node))),
-        5 => codes::head(trace, env[4], param(env, node)),
+        3 => codes::tail(operand(words, traces, table, env, left, nodes::first(words, node))),
+        4 => codes::null(operand(words, traces, table, env, left, nodes::first(words, node))),
+        5 => codes::head(traces, env[4], env[5], param(env, node)),
         6 => codes::tail(param(env, node)),
         7 => codes::null(param(env, node)),
         8 => branch(
             words,
-            trace,
+            traces,
             table,
             env,
             left,
             node,
-            eval(words, trace, table, env, left, nodes::first(words, node)),
+            eval(words, traces, table, env, left, nodes::first(words, node)),
         ),
-        9 => branch(words, trace, table, env, left, node, param(env, node)),
+        9 => branch(words, traces, table, env, left, node, param(env, node)),
         10 => branch(
             words,
-            trace,
+            traces,
             table,
             env,
             left,
@@ -62,15 +63,15 @@ pub fn eval(
         ),
         11 => branch(
             words,
-            trace,
+            traces,
             table,
             env,
             left,
             node,
-            codes::head(trace, env[4], param(env, node)),
+            codes::head(traces, env[4], env[5], param(env, node)),
         ),
-        12 => call(words, trace, table, env, left, node),
-        13 => call_one(words, trace, table, env, left, node),
+        12 => call(words, traces, table, env, left, node),
+        13 => call_one(words, traces, table, env, left, node),
         14 => codes::UNDECIDED,
         15 => codes::UNDECIDED,
         _ => codes::UNDECIDED,
@@ -80,13 +81,13 @@ pub fn eval(
 // As eval; a parameter, its tl and its hd are taken at once.
 fn operand(
     words: &[u64; WORDS],
-    trace: &[u8; codes::TRACE_BYTES],
+    traces: &[u8; codes::TRACES_BYTES],
     table: &&[u16],
-    env: &[u16; 5],
+    env: &[u16; 6],
     depth: u8,
     node: u64,
 ) -> u16
-    ensures { λ r. ⌜ r ≡ evalWord (now (words .entry)) (now (trace .entry)) (now (now (table .entry))) (now (env .entry)) depth node ⌝ }
+    ensures { λ r. ⌜ r ≡ evalWord (now (words .entry)) (now (traces .entry)) (now (now (table .entry))) (now (env .entry)) depth node ⌝ }
 {
     if depth == 0 {
         return codes::UNDECIDED;
@@ -99,28 +100,28 @@ fn operand(
         return param(env, node);
     }
     if sort == nodes::HEAD_PARAM {
-        return codes::head(trace, env[4], param(env, node));
+        return codes::head(traces, env[4], env[5], param(env, node));
     }
-    eval(words, trace, table, env, depth, node)
+    eval(words, traces, table, env, depth, node)
 }
 
 // The branch that a condition's outcome chooses.
 fn branch(
     words: &[u64; WORDS],
-    trace: &[u8; codes::TRACE_BYTES],
+    traces: &[u8; codes::TRACES_BYTES],
     table: &&[u16],
-    env: &[u16; 5],
+    env: &[u16; 6],
     depth: u8,
     node: u64,
     chosen: u16,
 ) -> u16
-    ensures { λ r. ⌜ r ≡ branchAt (now (words .entry)) (now (trace .entry)) (now (now (table .entry))) (now (env .entry)) depth node chosen ⌝ }
+    ensures { λ r. ⌜ r ≡ branchAt (now (words .entry)) (now (traces .entry)) (now (now (table .entry))) (now (env .entry)) depth node chosen ⌝ }
 {
     if chosen == codes::TRUE {
-        return eval(words, trace, table, env, depth, nodes::second(words, node));
+        return eval(words, traces, table, env, depth, nodes::second(words, node));
     }
     if chosen == codes::FALSE {
-        return eval(words, trace, table, env, depth, nodes::third(words, node));
+        return eval(words, traces, table, env, depth, nodes::third(words, node));
     }
     chosen
 }
@@ -129,13 +130,13 @@ fn branch(
 // its parameter's kind, undecided and errors too, is the outcome.
 fn call(
     words: &[u64; WORDS],
-    trace: &[u8; codes::TRACE_BYTES],
+    traces: &[u8; codes::TRACES_BYTES],
     table: &&[u16],
-    env: &[u16; 5],
+    env: &[u16; 6],
     depth: u8,
     node: u64,
 ) -> u16
-    ensures { λ r. ⌜ r ≡ callAt (now (words .entry)) (now (trace .entry)) (now (now (table .entry))) (now (env .entry)) depth node ⌝ }
+    ensures { λ r. ⌜ r ≡ callAt (now (words .entry)) (now (traces .entry)) (now (now (table .entry))) (now (env .entry)) depth node ⌝ }
 {
     let place = FUNCTIONS + STRIDE * nodes::callee(node);
     let count = nodes::count(node);
@@ -143,7 +144,7 @@ fn call(
     let mut index: u64 = 0;
     let mut i: u64 = 0;
     while i < count {
-        let value = operand(words, trace, table, env, depth, nodes::at(words, rest));
+        let value = operand(words, traces, table, env, depth, nodes::at(words, rest));
         let kind = words[place + 1 + i as usize];
         let digit = digit(kind, value);
         if functions::values(kind) <= digit {
@@ -159,16 +160,16 @@ fn call(
 // As call, for one argument.
 fn call_one(
     words: &[u64; WORDS],
-    trace: &[u8; codes::TRACE_BYTES],
+    traces: &[u8; codes::TRACES_BYTES],
     table: &&[u16],
-    env: &[u16; 5],
+    env: &[u16; 6],
     depth: u8,
     node: u64,
 ) -> u16
-    ensures { λ r. ⌜ r ≡ callOneAt (now (words .entry)) (now (trace .entry)) (now (now (table .entry))) (now (env .entry)) depth node ⌝ }
+    ensures { λ r. ⌜ r ≡ callOneAt (now (words .entry)) (now (traces .entry)) (now (now (table .entry))) (now (env .entry)) depth node ⌝ }
 {
     let place = FUNCTIONS + STRIDE * nodes::callee(node);
-    let value = operand(words, trace, table, env, depth, nodes::first(words, node));
+    let value = operand(words, traces, table, env, depth, nodes::first(words, node));
     let kind = words[place + 1];
     let digit = digit(kind, value);
     if functions::values(kind) <= digit {
@@ -178,7 +179,7 @@ fn call_one(
 }
 
 // The value of the parameter that a node names.
-pub fn param(env: &[u16; 5], node: u64) -> u16
+pub fn param(env: &[u16; 6], node: u64) -> u16
     ensures { λ r. ⌜ r ≡ getD (now (env .entry)) (paramOf node) 0 ⌝ }
 {
     env[nodes::param(node)]
@@ -209,5 +210,5 @@ pub fn lookup(function: u64, table: &&[u16], index: u64) -> u16
     if cells.len() <= cell {
         return codes::UNDECIDED;
     }
-    functions::held(function, cells[cell])
+    functions::working(function, cells[cell])
 }

@@ -11,23 +11,24 @@ use native.Mathlib.Omega.{arith}
 use lib.Dec.{eqb}
 use lib.ListN.{length}
 use borrow.Author.Tests.{eq-eqb, ne-eqb}
+use Rattle.codes.specs.declared.Lengths.{Lengths}
 use Rattle.passes.specs.Mirror.{Setup, passVisits, passCounts}
 use Rattle.passes.proofs.PassWays.{length-pass}
 use Rattle.fixpoint.specs.{tableFrom, passesRun}
 
 -- `done` passes that all stored have led from T₀ to T
-pub record Running (S : Setup) (n : ℕ) (starts : List ℕ) (count most : ℕ) (T₀ T : List ℕ) (done : ℕ) : Type 0 where
+pub record Running (S : Setup) (n : Lengths) (starts : List ℕ) (count most : ℕ) (T₀ T : List ℕ) (done : ℕ) : Type 0 where
   pub few : done ≤ most
   pub cells : tableFrom S n starts count (most - done) T ≡ tableFrom S n starts count most T₀
   pub passes : done + passesRun S n starts count (most - done) T ≡ passesRun S n starts count most T₀
   pub same : length T ≡ length T₀
 
-pub running-start : (S : Setup) (n : ℕ) (starts : List ℕ) (count most : ℕ) (T : List ℕ) → Running S n starts count most T T 0
+pub running-start : (S : Setup) (n : Lengths) (starts : List ℕ) (count most : ℕ) (T : List ℕ) → Running S n starts count most T T 0
 running-start S n starts count most T =
     let all : most - 0 ≡ most = omega arith in
     record { few = omega arith; cells = rw all; passes = rw all (omega arith); same = refl }
 
-module _ {S : Setup} {n : ℕ} {starts : List ℕ} {count most : ℕ} {T₀ T : List ℕ} {done : ℕ} (u : Running S n starts count most T₀ T done) where
+module _ {S : Setup} {n : Lengths} {starts : List ℕ} {count most : ℕ} {T₀ T : List ℕ} {done : ℕ} (u : Running S n starts count most T₀ T done) where
   pub running-length : {T′ : List ℕ} → T′ ≡ passVisits S n starts count T → length T′ ≡ length T₀
   running-length v = ap length v ∙ length-pass S n starts T count ∙ u .same
 

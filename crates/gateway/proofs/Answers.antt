@@ -2,16 +2,26 @@
 --   told           its values are left in the memory lent for them
 --   untold         a refusal leaves what was there
 --   told-as        what is told of an answer is told of what it is
+--   evaluated-told, written-told    what is told of what evaluating and recording answer, and of demand 3
 --   compared-told  what is told of a verdict that a record was compared with
 use mathlib.Core.Path.{_≡_, refl, sym, ap, _∙_}
 use mathlib.Core.Bool.{Bool, true, false}
 use mathlib.Core.List.{List, [], _∷_}
 use Prim.Native.Nat.{ℕ}
+use lib.ListN.{length}
 use Rattle.refusal.specs.declared.Refusal.{Refusal}
 use Rattle.refusal.specs.{numberOf, Answer, answered, valuesLeft}
 use Rattle.refusal.proofs.Numbers.{refused-left}
 use Rattle.trace.specs.{digit}
 use Rattle.semantics.specs.declared.Verdict.{Verdict}
+use Rattle.semantics.specs.Handed.{Handed}
+use Rattle.semantics.specs.Verdicts.{verdictValues}
+use Rattle.evaluate.specs.declared.Evaluated.{Evaluated}
+use Rattle.evaluate.specs.declared.Evaluated.the-variants as evaluated
+use Rattle.evaluate.specs.Evaluate.{evaluation, evaluatedAnswer, tableEvaluated, Demand3}
+use Rattle.record.specs.declared.Written.{Written}
+use Rattle.record.specs.declared.Written.the-variants as written
+use Rattle.record.specs.Recording.{recordOf, writing, writtenAnswer, outputWritten, tableWritten, RecordDemand3}
 use Rattle.layout.specs.Trailer.{contentsIn}
 use Rattle.record.specs.Checking.{agrees, compared, checkedAnswer, comparedIn}
 use Rattle.gateway.specs.{firstAlone, agreementValues}
@@ -34,6 +44,35 @@ module _ {A : Type 0} (numbers : A → Answer) {a b : A} (e : a ≡ b) (old : Li
 pub told-as : {A : Type 0} (numbers : A → Answer) {a b : A} (old : List ℕ) {number : ℕ} {left : List ℕ} → number ≡ numbers a .number
     → left ≡ valuesLeft (numbers a) old → a ≡ b → (number ≡ numbers b .number) × (left ≡ valuesLeft (numbers b) old)
 told-as numbers old n l e = (n ∙ ap (λ x. numbers x .number) e, l ∙ ap (λ x. valuesLeft (numbers x) old) e)
+
+-- the clauses of evaluating and of recording, of the answer in numbers
+module _ (program : List ℕ) (h : Handed) (T T′ : List ℕ) {number : ℕ} {left : List ℕ} (old : List ℕ) where
+  pub evaluated-told : {r : Evaluated} → number ≡ evaluatedAnswer r .number → left ≡ valuesLeft (evaluatedAnswer r) old
+      → r ≡ evaluation program h (length T) → T′ ≡ tableEvaluated program h T
+      → Demand3 program h (length T) (λ v. r ≡ evaluated.Verdict v) T′
+      → (number ≡ evaluatedAnswer (evaluation program h (length T)) .number)
+      × ((T′ ≡ tableEvaluated program h T)
+      × ((left ≡ valuesLeft (evaluatedAnswer (evaluation program h (length T))) old)
+      × Demand3 program h (length T) (λ v. (number ≡ 0) × (left ≡ verdictValues v)) T′))
+  unfolding valuesLeft
+  evaluated-told n l answer cells decides =
+      let all = told-as evaluatedAnswer old n l answer in
+      (all .0, (cells, (all .1, λ P a f t. let d = decides P a f t in (d .0, told-as evaluatedAnswer old n l (d .1), d .2))))
+
+  pub written-told : {r : Written} (out out′ : List ℕ) → number ≡ writtenAnswer r .number → left ≡ valuesLeft (writtenAnswer r) old
+      → r ≡ writing program h (length T) (length out) → out′ ≡ outputWritten program h (length T) out → T′ ≡ tableWritten program h T (length out)
+      → RecordDemand3 program h (length T) (length out) (λ v. r ≡ written.Record (length (recordOf program h)) v) T′
+      → (number ≡ writtenAnswer (writing program h (length T) (length out)) .number)
+      × ((out′ ≡ outputWritten program h (length T) out)
+      × ((T′ ≡ tableWritten program h T (length out))
+      × ((left ≡ valuesLeft (writtenAnswer (writing program h (length T) (length out))) old)
+      × RecordDemand3 program h (length T) (length out) (λ v. (number ≡ 0) × (left ≡ length (recordOf program h) ∷ verdictValues v)) T′)))
+  unfolding valuesLeft
+  written-told out out′ n l answer output cells decides =
+      let all = told-as writtenAnswer old n l answer in (
+        all .0,
+        (output, (cells, (all .1, λ enough P a f t. let d = decides enough P a f t in (d .0, told-as writtenAnswer old n l (d .1), d .2)))),
+      )
 
 pub compared-told : (bytes : List ℕ) (v : Verdict) (old : List ℕ)
     → (checkedAnswer (comparedIn bytes v) .number ≡ 0) × (valuesLeft (firstAlone (checkedAnswer (comparedIn bytes v))) old ≡ agreementValues bytes v)

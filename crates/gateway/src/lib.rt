@@ -1,6 +1,7 @@
 // The functions that the daemon in C calls, on bytes and numbers alone. include/sikafondza.h declares
 // them for C and is their documentation.
 use evaluate::Evaluated;
+use layout::GuardTrace;
 use layout::Label;
 use layout::Reading;
 use record::Checked;
@@ -13,10 +14,12 @@ ghost use mathlib.Core.List.{[], _∷_};
 ghost use lib.ListN.{length};
 ghost use Rattle.refusal.specs.{checkNumber, valuesLeft};
 ghost use Rattle.ring.specs.{slotsAfter, adding, addedAnswer, taking, takenAnswer, outputAfter};
+ghost use Rattle.semantics.specs.Handed.{oneTrace, twoTraces};
 ghost use Rattle.semantics.specs.Verdicts.{verdictValues};
+ghost use Rattle.rule.specs.declared.Sorts.the-variants as Sorts;
 ghost use Rattle.rule.specs.Reading.{programCheck};
 ghost use Rattle.evaluate.specs.Evaluate.{evaluation, evaluatedAnswer, tableEvaluated, Demand3};
-ghost use Rattle.record.specs.Reading.{reading, readAnswer, labelStart, labelLength};
+ghost use Rattle.record.specs.Reading.{reading, readAnswer, labelStart, labelLength, guardValues};
 ghost use Rattle.record.specs.Recording.{recordOf, writing, writtenAnswer, outputWritten, tableWritten, RecordDemand3};
 ghost use Rattle.record.specs.Checking.{checking, checkedAnswer, tableChecked, CheckDemand3};
 ghost use Rattle.gateway.specs.{ringIn, firstAlone, agreementValues};
@@ -77,14 +80,14 @@ fn ring_of(next: u64, count: u64) -> Ring
 // The number of the refusal that the program meets, 5 to 17, or 0.
 #[no_mangle]
 pub extern "C" fn sik_check_program(program: &[u8]) -> u32
-    ensures { λ r. ⌜ r ≡ checkNumber (programCheck (now (program .entry))) ⌝ }
+    ensures { λ r. ⌜ r ≡ checkNumber (programCheck Sorts.Both (now (program .entry))) ⌝ }
 {
     let checked = rule::check_program(program);
     let check = checked.check;
     refusal::check_number(check)
 }
 
-// Evaluates a program on a packed trace of n samples: 0, with the verdict's number and the pass count in
+// Evaluates a program of one contact on a packed trace of n samples: 0, with the verdict's number and the pass count in
 // `answer` and the cells in the table; or the number of the refusal, with both as they were.
 #[no_mangle]
 pub extern "C" fn sik_evaluate(
@@ -94,12 +97,32 @@ pub extern "C" fn sik_evaluate(
     table: &mut [u16],
     answer: &mut [u64; 2],
 ) -> u32
-    ensures number { λ r. ⌜ r ≡ evaluatedAnswer (evaluation (now (program .entry)) (now (trace .entry)) n (length (now (table .entry)))) .number ⌝ }
-    ensures cells { λ _. ⌜ now (table .exit) ≡ tableEvaluated (now (program .entry)) (now (trace .entry)) n (now (table .entry)) ⌝ }
-    ensures answer { λ _. ⌜ now (answer .exit) ≡ valuesLeft (evaluatedAnswer (evaluation (now (program .entry)) (now (trace .entry)) n (length (now (table .entry))))) (now (answer .entry)) ⌝ }
-    ensures decides { λ r. ⌜ Demand3 (now (program .entry)) (now (trace .entry)) n (length (now (table .entry))) (λ v. (r ≡ 0) × (now (answer .exit) ≡ verdictValues v)) (now (table .exit)) ⌝ }
+    ensures number { λ r. ⌜ r ≡ evaluatedAnswer (evaluation (now (program .entry)) (oneTrace (now (trace .entry)) n) (length (now (table .entry)))) .number ⌝ }
+    ensures cells { λ _. ⌜ now (table .exit) ≡ tableEvaluated (now (program .entry)) (oneTrace (now (trace .entry)) n) (now (table .entry)) ⌝ }
+    ensures answer { λ _. ⌜ now (answer .exit) ≡ valuesLeft (evaluatedAnswer (evaluation (now (program .entry)) (oneTrace (now (trace .entry)) n) (length (now (table .entry))))) (now (answer .entry)) ⌝ }
+    ensures decides { λ r. ⌜ Demand3 (now (program .entry)) (oneTrace (now (trace .entry)) n) (length (now (table .entry))) (λ v. (r ≡ 0) × (now (answer .exit) ≡ verdictValues v)) (now (table .exit)) ⌝ }
 {
     let evaluated = evaluate::evaluate(program, trace, n as usize, table);
+    answer_with(evaluated, answer)
+}
+
+// The same of a program of two contacts, on packed traces of n samples of the ram and m of the guard.
+#[no_mangle]
+pub extern "C" fn sik_evaluate_two(
+    program: &[u8],
+    ram: &[u8],
+    n: u64,
+    guard: &[u8],
+    m: u64,
+    table: &mut [u16],
+    answer: &mut [u64; 2],
+) -> u32
+    ensures number { λ r. ⌜ r ≡ evaluatedAnswer (evaluation (now (program .entry)) (twoTraces (now (ram .entry)) n (now (guard .entry)) m) (length (now (table .entry)))) .number ⌝ }
+    ensures cells { λ _. ⌜ now (table .exit) ≡ tableEvaluated (now (program .entry)) (twoTraces (now (ram .entry)) n (now (guard .entry)) m) (now (table .entry)) ⌝ }
+    ensures answer { λ _. ⌜ now (answer .exit) ≡ valuesLeft (evaluatedAnswer (evaluation (now (program .entry)) (twoTraces (now (ram .entry)) n (now (guard .entry)) m) (length (now (table .entry))))) (now (answer .entry)) ⌝ }
+    ensures decides { λ r. ⌜ Demand3 (now (program .entry)) (twoTraces (now (ram .entry)) n (now (guard .entry)) m) (length (now (table .entry))) (λ v. (r ≡ 0) × (now (answer .exit) ≡ verdictValues v)) (now (table .exit)) ⌝ }
+{
+    let evaluated = evaluate::evaluate_two(program, ram, n as usize, guard, m as usize, table);
     answer_with(evaluated, answer)
 }
 
@@ -122,7 +145,7 @@ fn answer_with(evaluated: Evaluated, answer: &mut [u64; 2]) -> u32
 // Reads the record that the bytes end in: 0, with its parts as numbers in `parts`; or the number of the
 // refusal, 1 to 3, 23 or 4 to 17, with `parts` as they were.
 #[no_mangle]
-pub extern "C" fn sik_read_record(bytes: &[u8], parts: &mut [u64; 11]) -> u32
+pub extern "C" fn sik_read_record(bytes: &[u8], parts: &mut [u64; 14]) -> u32
     ensures number { λ r. ⌜ r ≡ readAnswer (reading (now (bytes .entry))) .number ⌝ }
     ensures parts { λ _. ⌜ now (parts .exit) ≡ valuesLeft (readAnswer (reading (now (bytes .entry)))) (now (parts .entry)) ⌝ }
 {
@@ -131,7 +154,7 @@ pub extern "C" fn sik_read_record(bytes: &[u8], parts: &mut [u64; 11]) -> u32
 }
 
 // Writes a record's parts, and answers 0; or answers the number of the refusal.
-fn parts_with(reading: Reading, parts: &mut [u64; 11]) -> u32
+fn parts_with(reading: Reading, parts: &mut [u64; 14]) -> u32
     ensures number { λ r. ⌜ r ≡ readAnswer reading .number ⌝ }
     ensures parts { λ _. ⌜ now (parts .exit) ≡ valuesLeft (readAnswer reading) (now (parts .entry)) ⌝ }
 {
@@ -141,6 +164,8 @@ fn parts_with(reading: Reading, parts: &mut [u64; 11]) -> u32
             let trace = found.trace;
             let label = found.label;
             let place = label_numbers(label);
+            let guard = found.guard;
+            let second = guard_numbers(guard);
             *parts = [
                 program.start as u64,
                 program.length as u64,
@@ -153,6 +178,9 @@ fn parts_with(reading: Reading, parts: &mut [u64; 11]) -> u32
                 program.start as u64,
                 found.format as u64,
                 place[1],
+                second[0],
+                second[1],
+                second[2],
             ];
             0
         }
@@ -170,7 +198,17 @@ fn label_numbers(label: Label) -> [u64; 2]
     }
 }
 
-// Records a program on a packed trace of n samples: 0, with the record's length, the verdict's number and the
+// Where a guard trace stands, its length and the number of its samples: all 0 where there is none.
+fn guard_numbers(guard: GuardTrace) -> [u64; 3]
+    ensures { λ r. ⌜ r ≡ guardValues guard ⌝ }
+{
+    match guard {
+        GuardTrace::Absent => [0, 0, 0],
+        GuardTrace::At(span, m) => [span.start as u64, span.length as u64, m as u64],
+    }
+}
+
+// Records a program of one contact on a packed trace of n samples: 0, with the record's length, the verdict's number and the
 // pass count in `answer`, the record in the output and the cells in the table; or the number of the refusal,
 // with all three as they were.
 #[no_mangle]
@@ -182,13 +220,35 @@ pub extern "C" fn sik_write_record(
     out: &mut [u8],
     answer: &mut [u64; 3],
 ) -> u32
-    ensures number { λ r. ⌜ r ≡ writtenAnswer (writing (now (program .entry)) (now (trace .entry)) n (length (now (table .entry))) (length (now (out .entry)))) .number ⌝ }
-    ensures output { λ _. ⌜ now (out .exit) ≡ outputWritten (now (program .entry)) (now (trace .entry)) n (length (now (table .entry))) (now (out .entry)) ⌝ }
-    ensures cells { λ _. ⌜ now (table .exit) ≡ tableWritten (now (program .entry)) (now (trace .entry)) n (now (table .entry)) (length (now (out .entry))) ⌝ }
-    ensures answer { λ _. ⌜ now (answer .exit) ≡ valuesLeft (writtenAnswer (writing (now (program .entry)) (now (trace .entry)) n (length (now (table .entry))) (length (now (out .entry))))) (now (answer .entry)) ⌝ }
-    ensures decides { λ r. ⌜ RecordDemand3 (now (program .entry)) (now (trace .entry)) n (length (now (table .entry))) (length (now (out .entry))) (λ v. (r ≡ 0) × (now (answer .exit) ≡ length (recordOf (now (program .entry)) (now (trace .entry)) n) ∷ verdictValues v)) (now (table .exit)) ⌝ }
+    ensures number { λ r. ⌜ r ≡ writtenAnswer (writing (now (program .entry)) (oneTrace (now (trace .entry)) n) (length (now (table .entry))) (length (now (out .entry)))) .number ⌝ }
+    ensures output { λ _. ⌜ now (out .exit) ≡ outputWritten (now (program .entry)) (oneTrace (now (trace .entry)) n) (length (now (table .entry))) (now (out .entry)) ⌝ }
+    ensures cells { λ _. ⌜ now (table .exit) ≡ tableWritten (now (program .entry)) (oneTrace (now (trace .entry)) n) (now (table .entry)) (length (now (out .entry))) ⌝ }
+    ensures answer { λ _. ⌜ now (answer .exit) ≡ valuesLeft (writtenAnswer (writing (now (program .entry)) (oneTrace (now (trace .entry)) n) (length (now (table .entry))) (length (now (out .entry))))) (now (answer .entry)) ⌝ }
+    ensures decides { λ r. ⌜ RecordDemand3 (now (program .entry)) (oneTrace (now (trace .entry)) n) (length (now (table .entry))) (length (now (out .entry))) (λ v. (r ≡ 0) × (now (answer .exit) ≡ length (recordOf (now (program .entry)) (oneTrace (now (trace .entry)) n)) ∷ verdictValues v)) (now (table .exit)) ⌝ }
 {
     let written = record::write(program, trace, n as usize, table, out);
+    written_with(written, answer)
+}
+
+// The same of a program of two contacts, on packed traces of n samples of the ram and m of the guard.
+#[no_mangle]
+pub extern "C" fn sik_write_record_two(
+    program: &[u8],
+    ram: &[u8],
+    n: u64,
+    guard: &[u8],
+    m: u64,
+    table: &mut [u16],
+    out: &mut [u8],
+    answer: &mut [u64; 3],
+) -> u32
+    ensures number { λ r. ⌜ r ≡ writtenAnswer (writing (now (program .entry)) (twoTraces (now (ram .entry)) n (now (guard .entry)) m) (length (now (table .entry))) (length (now (out .entry)))) .number ⌝ }
+    ensures output { λ _. ⌜ now (out .exit) ≡ outputWritten (now (program .entry)) (twoTraces (now (ram .entry)) n (now (guard .entry)) m) (length (now (table .entry))) (now (out .entry)) ⌝ }
+    ensures cells { λ _. ⌜ now (table .exit) ≡ tableWritten (now (program .entry)) (twoTraces (now (ram .entry)) n (now (guard .entry)) m) (now (table .entry)) (length (now (out .entry))) ⌝ }
+    ensures answer { λ _. ⌜ now (answer .exit) ≡ valuesLeft (writtenAnswer (writing (now (program .entry)) (twoTraces (now (ram .entry)) n (now (guard .entry)) m) (length (now (table .entry))) (length (now (out .entry))))) (now (answer .entry)) ⌝ }
+    ensures decides { λ r. ⌜ RecordDemand3 (now (program .entry)) (twoTraces (now (ram .entry)) n (now (guard .entry)) m) (length (now (table .entry))) (length (now (out .entry))) (λ v. (r ≡ 0) × (now (answer .exit) ≡ length (recordOf (now (program .entry)) (twoTraces (now (ram .entry)) n (now (guard .entry)) m)) ∷ verdictValues v)) (now (table .exit)) ⌝ }
+{
+    let written = record::write_two(program, ram, n as usize, guard, m as usize, table, out);
     written_with(written, answer)
 }
 

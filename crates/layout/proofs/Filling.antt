@@ -1,14 +1,15 @@
 -- Laws of writing a record part after part:
---   packed-size                             the bytes of n samples
+--   packed-size, none-packed                the bytes of n samples, and of none
 --   is-packing, packing-size,
 --   packing-same                            bytes that are a packing: their number, and that they are it
 --   low-bits                                two bytes of a number, by its low 16 bits
---   trailer-is                              the trailer of what is recorded
---   length-layout, size-is                  how long a record is, and what is recorded
+--   trailer-one, trailer-two                the trailer of what is recorded
+--   length-layout, size-one, size-two       how long a record is, and what is recorded
+--   layout-one                              what is recorded with one trace
 --   no-packing, no-verdict, no-space,
 --   put-whole                               an output, by what was tested and put
 --   filled-begins                           an output that is filled begins with the record
-use mathlib.Core.Path.{_≡_, sym, ap, _∙_}
+use mathlib.Core.Path.{_≡_, refl, sym, ap, _∙_}
 use mathlib.Core.Bool.{true, false, not}
 use mathlib.Core.List.{List, [], _∷_, _++_}
 use Prim.Native.Nat.{ℕ, _+_, _*_, _/_, _%_, _<_, _≤_}
@@ -17,24 +18,32 @@ use lib.Arith.{mod-mul}
 use lib.Dec.{eqb}
 use lib.ListN.{length, length-append}
 use borrow.Author.Tests.{le-leb, lt-leb, eq-eqb, eqb-true, not-true}
-use Rattle.trace.specs.{bytesFor, samples, pack, paddingSet}
+use Rattle.trace.specs.{bytesFor, samples, packed, pack, paddingSet}
 use Rattle.trace.proofs.Packing.{length-samples, length-pack}
 use Rattle.trace.proofs.Padding.{clean-packed}
 use Rattle.rule.specs.Form.{AreBytes}
 use Rattle.rule.proofs.Tests.{both}
 use Rattle.semantics.specs.declared.Verdict.{Verdict}
+use Rattle.semantics.specs.declared.Sort.the-variants.{One, Two}
+use Rattle.semantics.specs.Handed.{Handed, handed}
+use Rattle.semantics.specs.Verdicts.{verdictNumber}
 use Rattle.encoding.specs.{lowFirst, begins, put}
 use Rattle.encoding.proofs.Low.{length-low, low-two}
 use Rattle.encoding.proofs.Putting.{no-room, front-put}
-use Rattle.layout.specs.Form.{format2, Contents, formatOf, mark, resultBytes, trailerBytes, labelSize, traceDistance, programDistance, trailer, labelPart, layoutIn, layout, mostVerdict}
 use Rattle.layout.specs.declared.Format.{Format}
-use Rattle.layout.specs.Filling.{recorded, isPacking, filled}
+use Rattle.layout.specs.Form.{format2, format3, Contents, formatOf, mark, leastTrailer, trailerBytes, resultBytes, labelSize, guardPart, guardCount, trailer, labelPart, layoutIn, layout, mostVerdict}
+use Rattle.layout.specs.Filling.{recorded, isPacking, arePackings, filled}
+use Rattle.layout.proofs.FormatLaws.{trailer-size}
 
--- ---- The trace
+-- ---- A trace
 
--- the bytes of n samples
+-- the bytes of n samples, and of none
 packed-size : (trace : List ℕ) (n : ℕ) → length (pack (samples trace n)) ≡ bytesFor n
 packed-size trace n = length-pack (samples trace n) ∙ ap bytesFor (length-samples trace n)
+
+none-packed : pack [] ≡ []
+unfolding pack packed bytesFor
+none-packed = refl
 
 module _ (trace : List ℕ) (n : ℕ) where
   pub is-packing : length trace ≡ bytesFor n → paddingSet trace n ≡ false → isPacking trace n ≡ true
@@ -62,51 +71,74 @@ low-bits x =
     let high : x % 65536 / 256 ≡ x / 256 % 256 = omega arith in
     sym (low-two (x % 65536) (omega arith)) ∙ rw (low, high)
 
-length-trailer : (F : Format) (c : Contents) → length (trailer F c) ≡ trailerBytes
-length-trailer F c =
-    rw (length-append, length-append, length-append, length-low 2 (programDistance F c), length-low 2 (traceDistance F c), length-low 2 (length (c .samples)))
+length-trailer : (F : Format) (c : Contents) → length (trailer F c) ≡ leastTrailer + length (guardCount (c .guard))
+length-trailer F c = simp (length-append, length-low) (omega arith)
 
 pub length-layout : (c : Contents)
-    → length (layout c) ≡ length (c .program) + (length (pack (c .samples)) + (length (labelPart (c .label)) + (resultBytes + trailerBytes)))
+    → length (layout c)
+    ≡ length (c .program)
+    + (length (pack (c .samples)) + (length (guardPart (c .guard)) + (length (labelPart (c .label)) + (resultBytes + trailerBytes (formatOf c)))))
 unfolding layoutIn
-length-layout c = rw (length-append, length-append, length-append, length-append, length-low 4 (c .passes), length-trailer (formatOf c) c)
+length-layout c =
+    let size : length (trailer (formatOf c) c) ≡ trailerBytes (formatOf c) = length-trailer (formatOf c) c ∙ trailer-size (c .guard) (c .label) in
+    rw (length-append, length-append, length-append, length-append, length-append, length-low 4 (c .passes), size)
 
-module _ (program trace : List ℕ) (n : ℕ) (v : Verdict) {k : ℕ} (e : k ≡ bytesFor n) where
-  pub trailer-is : lowFirst 2 (length program + (k + resultBytes))
-      ++ (lowFirst 2 (k + resultBytes) ++ (lowFirst 2 n ++ (format2 .number ∷ mark ∷ []))) ≡ trailer format2 (recorded program trace n v)
+-- with one trace, there is no guard trace between its bytes and the verdict byte
+pub layout-one : (program ram : List ℕ) (n : ℕ) (guard : List ℕ) (m : ℕ) (v : Verdict) → let c = recorded program (handed One ram n guard m) v in
+    layout c ≡ program ++ (pack (samples ram n) ++ ((verdictNumber (v .decision) ∷ lowFirst 4 (v .passes)) ++ trailer format2 c))
+unfolding recorded layoutIn
+layout-one program ram n guard m v = rw none-packed
+
+-- with one trace, and with two
+module _ (program ram : List ℕ) (n : ℕ) (guard : List ℕ) (m : ℕ) (v : Verdict) {k : ℕ} (e : k ≡ bytesFor n) where
+  pub trailer-one : lowFirst 2 (length program + (k + resultBytes))
+      ++ (lowFirst 2 (k + resultBytes) ++ (lowFirst 2 n ++ (format2 .number ∷ mark ∷ [])))
+      ≡ trailer format2 (recorded program (handed One ram n guard m) v)
   unfolding recorded labelSize
-  trailer-is = rw (packed-size trace n, length-samples trace n, e)
+  trailer-one = rw (packed-size ram n, none-packed, length-samples ram n, e)
 
-  pub size-is : length program + k + resultBytes + trailerBytes ≡ length (layout (recorded program trace n v))
-  unfolding recorded
-  size-is = let bits : length (pack (samples trace n)) ≡ bytesFor n =
-      packed-size trace n in omega (arith, length-layout (recorded program trace n v))
+  pub size-one : length program + k + resultBytes + leastTrailer ≡ length (layout (recorded program (handed One ram n guard m) v))
+  unfolding recorded trailerBytes
+  size-one = omega (arith, length-layout (recorded program (handed One ram n guard m) v), packed-size ram n, ap length none-packed)
+
+  module _ {j : ℕ} (d : j ≡ bytesFor m) where
+    pub trailer-two : lowFirst 2 (length program + (k + j + resultBytes))
+        ++ (lowFirst 2 (k + j + resultBytes) ++ (lowFirst 2 n ++ (lowFirst 2 m ++ (format3 .number ∷ mark ∷ []))))
+        ≡ trailer format3 (recorded program (handed Two ram n guard m) v)
+    unfolding recorded labelSize
+    trailer-two =
+        let both : bytesFor n + (bytesFor m + resultBytes) ≡ k + j + resultBytes = omega arith in
+        rw (packed-size ram n, packed-size guard m, length-samples ram n, length-samples guard m, both)
+
+    pub size-two : length program + (k + j) + resultBytes + trailerBytes format3 ≡ length (layout (recorded program (handed Two ram n guard m) v))
+    unfolding recorded
+    size-two = omega (arith, length-layout (recorded program (handed Two ram n guard m) v), packed-size ram n, packed-size guard m)
 
 -- ---- The output
 
-module _ (program trace : List ℕ) (n : ℕ) (v : Verdict) (out : List ℕ) where
+module _ (program : List ℕ) (h : Handed) (v : Verdict) (out : List ℕ) where
   abbrev c : Contents
-  c = recorded program trace n v
+  c = recorded program h v
 
-  pub no-packing : isPacking trace n ≡ false → out ≡ filled program trace n v out
+  pub no-packing : arePackings h ≡ false → out ≡ filled program h v out
   unfolding filled
   no-packing e = rw e
 
-  module _ (p : isPacking trace n ≡ true) where
-    pub no-verdict : mostVerdict < c .verdict → out ≡ filled program trace n v out
+  module _ (p : arePackings h ≡ true) where
+    pub no-verdict : mostVerdict < c .verdict → out ≡ filled program h v out
     unfolding filled
-    no-verdict h = rw (p, lt-leb (c .verdict) mostVerdict h)
+    no-verdict l = rw (p, lt-leb (c .verdict) mostVerdict l)
 
     module _ (small : c .verdict ≤ mostVerdict) where
-      whole-filled : put 0 (layout c) out ≡ filled program trace n v out
+      whole-filled : put 0 (layout c) out ≡ filled program h v out
       unfolding filled
       whole-filled = rw (p, le-leb (c .verdict) mostVerdict small)
 
-      pub no-space : length out < length (layout c) → out ≡ filled program trace n v out
-      no-space h = no-room 0 (layout c) out (omega arith) .1 ∙ whole-filled
+      pub no-space : length out < length (layout c) → out ≡ filled program h v out
+      no-space l = no-room 0 (layout c) out (omega arith) .1 ∙ whole-filled
 
-      pub put-whole : {out′ : List ℕ} → out′ ≡ put 0 (layout c) out → out′ ≡ filled program trace n v out
+      pub put-whole : {out′ : List ℕ} → out′ ≡ put 0 (layout c) out → out′ ≡ filled program h v out
       put-whole e = e ∙ whole-filled
 
-      pub filled-begins : length (layout c) ≤ length out → filled program trace n v out ≡ begins (layout c) out
-      filled-begins h = sym whole-filled ∙ front-put (layout c) out h
+      pub filled-begins : length (layout c) ≤ length out → filled program h v out ≡ begins (layout c) out
+      filled-begins l = sym whole-filled ∙ front-put (layout c) out l

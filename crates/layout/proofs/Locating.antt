@@ -1,5 +1,5 @@
 -- The trailer's checks, one law for each way through the code:
---   missing, wrong-mark, unknown             1 and 2
+--   missing, wrong-mark, unknown, cut        1 and 2
 --   faulty                                   3
 --   distances                                what 3 leaves
 --   sound                                    23, 4, or the parts
@@ -14,52 +14,75 @@ use borrow.Author.Tests.{lt-ltb, le-ltb, ne-eqb, eq-eqb}
 use lib.ListN.{length, getD}
 use lib.Seq.{drop-cons}
 use Rattle.refusal.specs.declared.Refusal.the-variants.{TrailerMissing, MarkOrFormat, TrailerFields}
-use Rattle.trace.specs.{bytesFor}
 use Rattle.encoding.specs.{fromLow}
 use Rattle.layout.specs.declared.Reading.the-variants as read
 use Rattle.layout.specs.declared.Format.{Format}
-use Rattle.layout.specs.Form.{formats, knows, mark, trailerBytes}
-use Rattle.layout.specs.Trailer.{partOf, numberAt, trailerAt, programDistanceIn, traceDistanceIn, samplesIn, formatIn, formatHeld, markIn, verdictIn, passesIn, fieldsFault, trailerCheckWith, partsFor, locatedWith, located}
-use Rattle.layout.specs.Steps.{Distances, partsStored}
-use Rattle.layout.proofs.Fields.{fields-sound}
+use Rattle.layout.specs.Form.{formats, knows, mark, leastTrailer, trailerBytes}
+use Rattle.layout.specs.Trailer.{partOf, numberAt, trailerAt, programDistanceIn, traceDistanceIn, samplesIn, guardSamplesIn, formatIn, formatHeld, markIn, verdictIn, passesIn, fieldsFault, trailerCheckWith, partsFor, locatedWith, located}
+use Rattle.layout.specs.Steps.{Distances, guardCountAt, partsStored}
+use Rattle.layout.proofs.Fields.{unknown-refused, fields-sound}
 
 module _ (bytes : List ℕ) where
-  pub missing : length bytes < trailerBytes → read.Refused TrailerMissing ≡ located bytes
+  pub missing : length bytes < leastTrailer → read.Refused TrailerMissing ≡ located bytes
   unfolding locatedWith trailerCheckWith
-  missing h = rw (lt-ltb (length bytes) trailerBytes h)
+  missing h = rw (lt-ltb (length bytes) leastTrailer h)
 
-  module _ (long : trailerBytes ≤ length bytes) where
+  module _ (long : leastTrailer ≤ length bytes) where
     pub wrong-mark : (markIn bytes ≡ mark → ⊥) → read.Refused MarkOrFormat ≡ located bytes
     unfolding locatedWith trailerCheckWith
-    wrong-mark m = rw (le-ltb (length bytes) trailerBytes long, ne-eqb (markIn bytes) mark m)
+    wrong-mark m = rw (le-ltb (length bytes) leastTrailer long, ne-eqb (markIn bytes) mark m)
 
-    pub unknown : markIn bytes ≡ mark → knows formats (formatIn bytes) ≡ false → read.Refused MarkOrFormat ≡ located bytes
-    unfolding locatedWith trailerCheckWith
-    unknown m k = rw (le-ltb (length bytes) trailerBytes long, eq-eqb (markIn bytes) mark m, k)
+    module _ (m : markIn bytes ≡ mark) where
+      pub unknown : knows formats (formatIn bytes) ≡ false → read.Refused MarkOrFormat ≡ located bytes
+      unfolding locatedWith
+      unknown k = rw (unknown-refused formats bytes long m k)
 
-    module _ (m : markIn bytes ≡ mark) (k : knows formats (formatIn bytes) ≡ true) {F : Format} (f : F ≡ formatHeld formats bytes)
-        {first second n : ℕ} {fault : Bool}
-        (p : first ≡ numberAt 2 (trailerAt bytes) bytes) (q : second ≡ numberAt 2 (trailerAt bytes + 2) bytes)
-        (r : n ≡ numberAt 2 (trailerAt bytes + 4) bytes)
-        (e : fault ≡ fieldsFault F (trailerAt bytes) first second n) where
-      told : fieldsFault F (trailerAt bytes) (programDistanceIn bytes) (traceDistanceIn bytes) (samplesIn bytes) ≡ fault
-      unfolding programDistanceIn traceDistanceIn samplesIn
-      told = rw (← p, ← q, ← r) (sym e)
+      module _ {F : Format} (f : F ≡ formatHeld formats bytes) where
+        pub cut : length bytes < trailerBytes F → read.Refused TrailerMissing ≡ located bytes
+        unfolding locatedWith trailerCheckWith
+        cut h = rw (le-ltb (length bytes) leastTrailer long, eq-eqb (markIn bytes) mark m, ← f, lt-ltb (length bytes) (trailerBytes F) h)
 
-      pub faulty : fault ≡ true → read.Refused TrailerFields ≡ located bytes
-      unfolding locatedWith trailerCheckWith
-      faulty w = rw (le-ltb (length bytes) trailerBytes long, eq-eqb (markIn bytes) mark m, k, ← f, told ∙ w)
+        module _ (k : knows formats (formatIn bytes) ≡ true) (whole : trailerBytes F ≤ length bytes) {at first second n m′ : ℕ} {fault : Bool}
+            (a : at ≡ trailerAt F bytes) (p : first ≡ numberAt 2 at bytes) (q : second ≡ numberAt 2 (at + 2) bytes)
+            (r : n ≡ numberAt 2 (at + 4) bytes) (g : m′ ≡ guardCountAt F at bytes) (e : fault ≡ fieldsFault F at first second n m′) where
+          told : fieldsFault F (trailerAt F bytes) (programDistanceIn F bytes) (traceDistanceIn F bytes) (samplesIn F bytes) (guardSamplesIn F bytes)
+              ≡ fault
+          unfolding programDistanceIn traceDistanceIn samplesIn guardSamplesIn guardCountAt
+          told = rw (← a, ← p, ← q, ← r, ← g) (sym e)
 
-      pub sound : fault ≡ false → partsStored bytes F (trailerAt bytes) first second n ≡ located bytes
-      unfolding locatedWith trailerCheckWith partsStored partsFor verdictIn passesIn programDistanceIn traceDistanceIn samplesIn
-      sound w =
-          rw (le-ltb (length bytes) trailerBytes long, eq-eqb (markIn bytes) mark m, k, ← f, told ∙ w, ← p, ← q, ← r)
+          pub faulty : fault ≡ true → read.Refused TrailerFields ≡ located bytes
+          unfolding locatedWith trailerCheckWith
+          faulty w =
+              rw (
+                le-ltb (length bytes) leastTrailer long,
+                eq-eqb (markIn bytes) mark m,
+                k,
+                ← f,
+                le-ltb (length bytes) (trailerBytes F) whole,
+                told ∙ w,
+              )
 
-pub distances : (F : Format) (len first second n : ℕ) → trailerBytes ≤ len → fieldsFault F (len - trailerBytes) first second n ≡ false
-    → Distances F len (len - trailerBytes) first second
-unfolding bytesFor
-distances F len first second n long e =
-    let s = fields-sound F _ first second n e in
+          pub sound : fault ≡ false → partsStored bytes F at first second n m′ ≡ located bytes
+          unfolding locatedWith trailerCheckWith partsStored partsFor verdictIn passesIn programDistanceIn traceDistanceIn samplesIn guardSamplesIn guardCountAt
+          sound w =
+              rw (
+                le-ltb (length bytes) leastTrailer long,
+                eq-eqb (markIn bytes) mark m,
+                k,
+                ← f,
+                le-ltb (length bytes) (trailerBytes F) whole,
+                told ∙ w,
+                ← a,
+                ← p,
+                ← q,
+                ← r,
+                ← g,
+              )
+
+pub distances : (F : Format) (len : ℕ) {at : ℕ} (first second n m : ℕ) → trailerBytes F ≤ len → at ≡ len - trailerBytes F
+    → fieldsFault F at first second n m ≡ false → Distances F len at first second
+distances F len first second n m long a e =
+    let s = fields-sound F _ first second n m e in
     record { trailer = omega arith; within = s .within; larger = s .larger; tail = omega (arith, s .exact) }
 
 -- ---- Numbers at a place

@@ -6,7 +6,8 @@
 --   Stands                         what the bytes are from a place on
 --   part-there, byte-there,
 --   number-there, next-there       the part, byte or number that stands at a place, and what stands after it
---   LabelWithin, Within, within    the parts lie within the bytes
+--   LabelWithin, GuardWithin,
+--   Within, within                 the parts lie within the bytes
 use mathlib.Core.Path.{_≡_, sym, ap, _∙_}
 use mathlib.Core.Bool.{Bool, true, false, cond}
 use mathlib.Core.List.{List, [], _∷_, _++_}
@@ -23,9 +24,12 @@ use Rattle.encoding.proofs.Low.{length-low, from-low, low-from, from-below}
 use Rattle.layout.specs.declared.Format.{Format}
 use Rattle.layout.specs.declared.Label.{Label}
 use Rattle.layout.specs.declared.Label.the-variants.{Absent, At}
+use Rattle.layout.specs.declared.GuardTrace.{GuardTrace}
+use Rattle.layout.specs.declared.GuardTrace.the-variants as guard
 use Rattle.layout.specs.declared.Parts.{Parts}
 use Rattle.layout.specs.Form.{labelBytes, afterTrace}
-use Rattle.layout.specs.Trailer.{partOf, span, numberAt, trailerAt, labelPlace, partsFor}
+use Rattle.layout.specs.Trailer.{partOf, span, numberAt, trailerAt, guardSpan, guardSamplesIn, labelPlace, guardPlace, partsFor}
+use Rattle.layout.proofs.FormatLaws.{least-trailer}
 use Rattle.layout.proofs.Fields.{Fields}
 
 -- ---- Parts of bytes
@@ -92,29 +96,45 @@ abbrev pub LabelWithin : List ℕ → Label → Type 0
 LabelWithin bytes (At s) = s .start + s .length ≤ length bytes
 LabelWithin bytes Absent = Unit {0}
 
+-- a guard trace does, and has no more samples than a trace may
+abbrev pub GuardWithin : List ℕ → GuardTrace → Type 0
+GuardWithin bytes (guard.At s m) = (s .start + s .length ≤ length bytes) × (m ≤ mostSamples)
+GuardWithin bytes guard.Absent = Unit {0}
+
 -- the parts lie within the bytes, and the program begins before their end
 pub record Within (bytes : List ℕ) (p : Parts) : Type 0 where
   pub some : p .program .start < length bytes
   pub program : p .program .start + p .program .length ≤ length bytes
   pub trace : p .trace .start + p .trace .length ≤ length bytes
+  pub guard : GuardWithin bytes (p .guard)
   pub label : LabelWithin bytes (p .label)
   pub few : p .n ≤ mostSamples
 
-label-within : (F : Format) (bytes : List ℕ) → Fields F bytes → LabelWithin bytes (labelPlace F (trailerAt bytes - afterTrace F))
-unfolding labelPlace
-label-within F bytes f = go (F .labelled)
-  where
-    go : (b : Bool) → LabelWithin bytes (cond b (At (span (trailerAt bytes - afterTrace F) labelBytes)) Absent)
-    go true = omega (arith, f .room)
-    go false = tt
+module _ (F : Format) (bytes : List ℕ) (f : Fields F bytes) where
+  label-within : LabelWithin bytes (labelPlace F (trailerAt F bytes - afterTrace F))
+  unfolding labelPlace
+  label-within = go (F .labelled)
+    where
+      go : (b : Bool) → LabelWithin bytes (cond b (At (span (trailerAt F bytes - afterTrace F) labelBytes)) Absent)
+      go true = omega (arith, f .room, least-trailer F)
+      go false = tt
 
-pub within : (F : Format) (bytes : List ℕ) → Fields F bytes → Within bytes (partsFor F bytes)
-unfolding partsFor
-within F bytes f =
-    record {
-      some = omega (arith, f .room, f .larger, f .before);
-      program = omega arith;
-      trace = omega arith;
-      label = label-within F bytes f;
-      few = f .few;
-    }
+  guard-within : GuardWithin bytes (guardPlace F (guardSpan F bytes) (guardSamplesIn F bytes))
+  unfolding guardPlace
+  guard-within = go (F .guarded)
+    where
+      go : (b : Bool) → GuardWithin bytes (cond b (guard.At (guardSpan F bytes) (guardSamplesIn F bytes)) guard.Absent)
+      go true = (omega (arith, f .room, f .second, f .larger, f .before), f .fewGuard)
+      go false = tt
+
+  pub within : Within bytes (partsFor F bytes)
+  unfolding partsFor
+  within =
+      record {
+        some = omega (arith, f .room, f .larger, f .before, least-trailer F);
+        program = omega arith;
+        trace = omega arith;
+        guard = guard-within;
+        label = label-within;
+        few = f .few;
+      }

@@ -8,8 +8,10 @@ use refusal::Refusal;
 ghost use mathlib.Core.Path.{_≡_};
 ghost use Prim.Native.Nat.{_+_, _≤_};
 ghost use lib.ListN.{length};
-ghost use Rattle.layout.specs.Trailer.{numberAt, fieldsFault};
-ghost use Rattle.layout.specs.Steps.{partsStored, Distances};
+ghost use Rattle.trace.specs.{paddingSet};
+ghost use Rattle.layout.specs.Form.{trailerBytes};
+ghost use Rattle.layout.specs.Trailer.{partOf, numberAt, fieldsFault};
+ghost use Rattle.layout.specs.Steps.{guardCountAt, partsStored, Distances};
 
 // The number of 16 bits at a place.
 pub fn sixteen(bytes: &[u8], at: usize) -> u16
@@ -27,14 +29,36 @@ fn thirty_two(bytes: &[u8], at: usize) -> u32
     encoding::from32(bytes[at], bytes[at + 1], bytes[at + 2], bytes[at + 3])
 }
 
+// The number of the guard trace's samples in a trailer at a place; 0 where the format has none.
+pub fn guard_samples(bytes: &[u8], format: Format, at: usize) -> u16
+    requires { ⌜ at + trailerBytes format ≤ length (now bytes) ⌝ }
+    ensures { λ r. ⌜ r ≡ guardCountAt format at (now (bytes .entry)) ⌝ }
+{
+    if format.guarded {
+        sixteen(bytes, at + 6)
+    } else {
+        0
+    }
+}
+
 // Whether 3 applies in a format; so many bytes stand before the trailer.
-pub fn fields_fault(format: Format, before: usize, first: usize, second: usize, n: usize) -> bool
-    ensures { λ r. ⌜ r ≡ fieldsFault format before first second n ⌝ }
+pub fn fields_fault(
+    format: Format,
+    before: usize,
+    first: usize,
+    second: usize,
+    n: usize,
+    m: usize,
+) -> bool
+    ensures { λ r. ⌜ r ≡ fieldsFault format before first second n m ⌝ }
 {
     if trace::MOST_SAMPLES < n {
         return true;
     }
-    if second != trace::bytes_for(n) + formats::after_trace(format) {
+    if trace::MOST_SAMPLES < m {
+        return true;
+    }
+    if second != trace::bytes_for(n) + trace::bytes_for(m) + formats::after_trace(format) {
         return true;
     }
     if first <= second {
@@ -51,21 +75,30 @@ pub fn stored_parts(
     first: usize,
     second: usize,
     n: u16,
+    m: u16,
 ) -> Reading
     requires { ⌜ Distances format (length (now bytes)) at first second ⌝ }
-    ensures { λ r. ⌜ r ≡ partsStored (now (bytes .entry)) format at first second n ⌝ }
+    ensures { λ r. ⌜ r ≡ partsStored (now (bytes .entry)) format at first second n m ⌝ }
 {
-    let after = formats::after_trace(format);
     let trace = Span {
         start: at - second,
-        length: second - after,
+        length: trace::bytes_for(n as usize),
     };
-    let count = n as usize;
-    let padding_set = trace::padding_set(crate::part(bytes, trace), count);
+    let guard = Span {
+        start: at - second + trace::bytes_for(n as usize),
+        length: trace::bytes_for(m as usize),
+    };
+    let padding_set = padding_in(bytes, trace, n);
+    let guard_padding_set = padding_in(bytes, guard, m);
+    let place = formats::guard_place(format, guard, m);
+    let after = formats::after_trace(format);
     let label = formats::label_place(format, at - after);
     let verdict = bytes[at - crate::RESULT];
     let passes = thirty_two(bytes, at - 4);
     if padding_set {
+        return Reading::Refused(Refusal::PaddingSet);
+    }
+    if guard_padding_set {
         return Reading::Refused(Refusal::PaddingSet);
     }
     if crate::MOST_VERDICT < verdict {
@@ -82,8 +115,16 @@ pub fn stored_parts(
         },
         trace,
         n,
+        guard: place,
         label,
         verdict,
         passes,
     })
+}
+
+// Whether a bit above the last of n samples is set in a part of the bytes.
+fn padding_in(bytes: &[u8], span: Span, n: u16) -> bool
+    ensures { λ r. ⌜ r ≡ paddingSet (partOf (now (bytes .entry)) span) n ⌝ }
+{
+    trace::padding_set(crate::part(bytes, span), n as usize)
 }

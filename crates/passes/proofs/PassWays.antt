@@ -4,6 +4,8 @@
 --   visited-kept, visited-open               one more: a decided cell, an undecided one
 --   visited-row                              a row more
 --   stores-le                                how many outcomes are stored at most
+--   short-ram, short-guard,
+--   short-true, true-short                   the test that traces can have such lengths
 --   ready-fits, fits-ready                   the test that a function's cells lie within the table
 --   Covering                                 some functions have been visited, or passed over
 --   cleared-whole, cleared-within            the first cells made undecided
@@ -20,15 +22,17 @@ use lib.ListN.{length, getD, set, drop, replicate, length-set, drop-of-length-le
 use borrow.Author.Tests.{ltb-true, le-ltb, leb-true, leb-false, lt-ltb, le-leb, lt-leb, eq-eqb, ne-eqb}
 use Rattle.trace.specs.{mostSamples}
 use Rattle.syntax.specs.Limits.{mostFunctions, mostDepth}
+use Rattle.codes.specs.declared.Lengths.{Lengths}
+use Rattle.codes.specs.{Short, cellCode}
 use Rattle.decoding.specs.Words.{heldIn}
-use Rattle.passes.specs.Mirror.{mostConfigurations, Setup, firstOf, bodyAt, sizeOf, envAt, filledAt, putIn, storedAt, visitAt, oneUnless}
+use Rattle.passes.specs.Mirror.{mostConfigurations, short, Setup, firstOf, bodyAt, sizeOf, envAt, filledAt, putIn, storedAt, visitAt, oneUnless}
 use Rattle.evaluator.specs.{functionAt, evalWord}
 use Rattle.passes.specs.Mirror.{visitsFrom, storesFrom, Ready}
 use Rattle.passes.specs.Mirror.{fits, passVisits, passCounts, cleared}
 
 -- ---- The visit of a configuration
 
-module _ (S : Setup) (n g body : ℕ) (T : List ℕ) (i : ℕ) where
+module _ (S : Setup) (n : Lengths) (g body : ℕ) (T : List ℕ) (i : ℕ) where
   abbrev heldHere : ℕ
   heldHere = heldIn (functionAt (S .words) g) (getD T (firstOf (S .functions) g + i) 0)
 
@@ -45,9 +49,9 @@ module _ (S : Setup) (n g body : ℕ) (T : List ℕ) (i : ℕ) where
   length-put : (c : ℕ) → length (putIn T (firstOf (S .functions) g + i) c) ≡ length T
   length-put c = go (eqb c 0)
     where
-      go : (b : Bool) → length (cond b T (set T (firstOf (S .functions) g + i) c)) ≡ length T
+      go : (b : Bool) → length (cond b T (set T (firstOf (S .functions) g + i) (cellCode c))) ≡ length T
       go true = refl
-      go false = length-set T (firstOf (S .functions) g + i) c
+      go false = length-set T (firstOf (S .functions) g + i) (cellCode c)
 
   length-visit : length (visitAt S n g body T i) ≡ length T
   unfolding visitAt
@@ -58,7 +62,7 @@ module _ (T : List ℕ) (cell : ℕ) {c : ℕ} where
   pub put-none : c ≡ 0 → (T ≡ putIn T cell c) × (0 ≡ oneUnless c)
   put-none e = (simp (eq-eqb _ _ e), simp (eq-eqb _ _ e))
 
-  pub put-some : (c ≡ 0 → ⊥) → (set T cell c ≡ putIn T cell c) × (1 ≡ oneUnless c)
+  pub put-some : (c ≡ 0 → ⊥) → (set T cell (cellCode c) ≡ putIn T cell c) × (1 ≡ oneUnless c)
   put-some z = (simp (ne-eqb _ _ z), simp (ne-eqb _ _ z))
 
 one-le : (c : ℕ) → oneUnless c ≤ 1
@@ -70,7 +74,7 @@ one-le c = go (eqb c 0)
 
 -- ---- Some configurations of a function
 
-module _ (S : Setup) (n g body base : ℕ) (T : List ℕ) where
+module _ (S : Setup) (n : Lengths) (g body base : ℕ) (T : List ℕ) where
   pub length-visits : (i : ℕ) → length (visitsFrom S n g body base i T) ≡ length T
   unfolding visitsFrom
   length-visits zero = refl
@@ -91,7 +95,7 @@ module _ (S : Setup) (n g body base : ℕ) (T : List ℕ) where
   stores-more i = rw add-one
 
 -- those of a row come after those before it
-module _ (S : Setup) (n g body base : ℕ) (T : List ℕ) where
+module _ (S : Setup) (n : Lengths) (g body base : ℕ) (T : List ℕ) where
   visits-row : (k : ℕ) → visitsFrom S n g body 0 (base + k) T ≡ visitsFrom S n g body base k (visitsFrom S n g body 0 base T)
   unfolding visitsFrom
   visits-row zero = rw (add-zero base)
@@ -106,15 +110,15 @@ module _ (S : Setup) (n g body base : ℕ) (T : List ℕ) where
       rw (add-suc base k, zero-add (base + k), visits-row k) (omega (arith, stores-row k))
 
 -- from `base` on, i configurations have been visited
-pub record Visited (S : Setup) (n g body base : ℕ) (T₀ T : List ℕ) (stored i : ℕ) : Type 0 where
+pub record Visited (S : Setup) (n : Lengths) (g body base : ℕ) (T₀ T : List ℕ) (stored i : ℕ) : Type 0 where
   pub cells : T ≡ visitsFrom S n g body base i T₀
   pub count : stored ≡ storesFrom S n g body base i T₀
 
-pub visited-start : (S : Setup) (n g body base : ℕ) (T : List ℕ) → Visited S n g body base T T 0 0
+pub visited-start : (S : Setup) (n : Lengths) (g body base : ℕ) (T : List ℕ) → Visited S n g body base T T 0 0
 unfolding visitsFrom storesFrom
 visited-start S n g body base T = record { cells = refl; count = refl }
 
-module _ {S : Setup} {n g body base : ℕ} {T₀ T : List ℕ} {stored i : ℕ} (u : Visited S n g body base T₀ T stored i) where
+module _ {S : Setup} {n : Lengths} {g body base : ℕ} {T₀ T : List ℕ} {stored i : ℕ} (u : Visited S n g body base T₀ T stored i) where
   pub visited-length : length T ≡ length T₀
   visited-length = ap length (u .cells) ∙ length-visits S n g body base T₀ i
 
@@ -139,14 +143,14 @@ module _ {S : Setup} {n g body base : ℕ} {T₀ T : List ℕ} {stored i : ℕ} 
         next (sym (k .0)) (omega (arith, k .1))
 
     pub visited-open : {env : List ℕ} {more : ℕ} {T′ : List ℕ} → h ≡ 0 → env ≡ envAt (S .functions) n g (base + i)
-        → T′ ≡ putIn T cell (evalWord (S .words) (S .trace) T env mostDepth body)
-        → more ≡ stored + oneUnless (evalWord (S .words) (S .trace) T env mostDepth body)
+        → T′ ≡ putIn T cell (evalWord (S .words) (S .traces) T env mostDepth body)
+        → more ≡ stored + oneUnless (evalWord (S .words) (S .traces) T env mostDepth body)
         → Visited S n g body base T₀ T′ more (i + 1)
     unfolding filledAt
     visited-open {env} z v f s =
         let k = visit-open S n g body T (base + i) (sym held-same ∙ z) in
-        let same : evalWord (S .words) (S .trace) T env mostDepth body ≡ filledAt S n g body T (base + i) =
-        ap (λ (m : List ℕ). evalWord (S .words) (S .trace) T m mostDepth body) v in
+        let same : evalWord (S .words) (S .traces) T env mostDepth body ≡ filledAt S n g body T (base + i) =
+        ap (λ (m : List ℕ). evalWord (S .words) (S .traces) T m mostDepth body) v in
         next (f ∙ rw (here, same) (sym (k .0))) (s ∙ ap (λ (x : ℕ). stored + oneUnless x) (same ∙ sym (k .1)))
 
   pub visited-end : {last size : ℕ} → i ≤ last → last ≤ i → last ≡ size → (T ≡ visitsFrom S n g body base size T₀)
@@ -156,7 +160,7 @@ module _ {S : Setup} {n g body base : ℕ} {T₀ T : List ℕ} {stored i : ℕ} 
       (rw all at (u .cells), rw all at (u .count))
 
 -- one row more
-pub visited-row : {S : Setup} {n g body : ℕ} {T₀ T T′ : List ℕ} {stored base more : ℕ} (width : ℕ) → Visited S n g body 0 T₀ T stored base
+pub visited-row : {S : Setup} {n : Lengths} {g body : ℕ} {T₀ T T′ : List ℕ} {stored base more : ℕ} (width : ℕ) → Visited S n g body 0 T₀ T stored base
     → T′ ≡ visitsFrom S n g body base width T → more ≡ storesFrom S n g body base width T
     → Visited S n g body 0 T₀ T′ (stored + more) (base + width)
 visited-row {S} {n} {g} {body} {T₀} {base = base} width u v s = record {
@@ -170,17 +174,32 @@ both : (a b : Bool) → (a && b) ≡ true → (a ≡ true) × (b ≡ true)
 both true b e = (refl, e)
 both false b e = let z : _≡_ {A = ℕ} 0 1 = cc in absurd (omega arith)
 
-module _ {functions : List ℕ} {n g len : ℕ} where
+pub short-true : {n : Lengths} → Short n → short n ≡ true
+short-true {n} h = simp (le-leb (n .ram) mostSamples (h .0), le-leb (n .guard) mostSamples (h .1))
+
+-- the first of its parts, as the code tests it
+pub short-ram : (n : Lengths) → mostSamples < n .ram → false ≡ short n
+short-ram n h = simp (lt-leb (n .ram) mostSamples h)
+
+pub short-guard : (n : Lengths) → n .ram ≤ mostSamples → leb (n .guard) mostSamples ≡ short n
+short-guard n h = simp (le-leb (n .ram) mostSamples h)
+
+pub true-short : {n : Lengths} → short n ≡ true → Short n
+true-short {n} e =
+    let h = both (leb (n .ram) mostSamples) _ e in
+    (leb-true _ _ (h .0), leb-true _ _ (h .1))
+
+module _ {functions : List ℕ} {n : Lengths} {g len : ℕ} where
   pub ready-fits : Ready functions n g len → fits functions n g len ≡ true
   unfolding fits
-  ready-fits u = simp (lt-ltb g mostFunctions (u .below), le-leb n mostSamples (u .samples), le-leb _ len (u .within))
+  ready-fits u = simp (lt-ltb g mostFunctions (u .below), short-true (u .samples), le-leb _ len (u .within))
 
   pub fits-ready : fits functions n g len ≡ true → Ready functions n g len
   unfolding fits
   fits-ready e =
       let first = both (ltb g mostFunctions) _ e in
-      let second = both (leb n mostSamples) _ (first .1) in
-      record { below = ltb-true _ _ (first .0); samples = leb-true _ _ (second .0); within = leb-true _ _ (second .1) }
+      let second = both (short n) _ (first .1) in
+      record { below = ltb-true _ _ (first .0); samples = true-short (second .0); within = leb-true _ _ (second .1) }
 
 -- the last of its parts, as the code tests it
 within-left : (first size len : ℕ) → first ≤ len → leb size (len - first) ≡ leb (first + size) len
@@ -190,43 +209,43 @@ within-left first size len h = go (leb size (len - first)) refl
     go true e = let l = leb-true size (len - first) e in sym (le-leb (first + size) len (omega arith))
     go false e = let l = leb-false size (len - first) e in sym (lt-leb (first + size) len (omega arith))
 
-module _ (functions : List ℕ) (n g len : ℕ) where
+module _ (functions : List ℕ) (n : Lengths) (g len : ℕ) where
   pub fits-beyond : mostFunctions ≤ g → false ≡ fits functions n g len
   unfolding fits
   fits-beyond h = simp (le-ltb g mostFunctions h)
 
   module _ (below : g < mostFunctions) where
-    pub fits-long : mostSamples < n → false ≡ fits functions n g len
+    pub fits-long : short n ≡ false → false ≡ fits functions n g len
     unfolding fits
-    fits-long h = simp (lt-ltb g mostFunctions below, lt-leb n mostSamples h)
+    fits-long h = simp (lt-ltb g mostFunctions below, h)
 
-    module _ (samples : n ≤ mostSamples) where
+    module _ (samples : Short n) where
       pub fits-past : len < firstOf functions g → false ≡ fits functions n g len
       unfolding fits
       fits-past h =
           let far = lt-leb (firstOf functions g + sizeOf functions n g) len (omega arith) in
-          simp (lt-ltb g mostFunctions below, le-leb n mostSamples samples, far)
+          simp (lt-ltb g mostFunctions below, short-true samples, far)
 
       pub fits-left : firstOf functions g ≤ len → {size : ℕ} → size ≡ sizeOf functions n g
           → leb size (len - firstOf functions g) ≡ fits functions n g len
       unfolding fits
       fits-left h e =
-          simp (e, lt-ltb g mostFunctions below, le-leb n mostSamples samples)
+          simp (e, lt-ltb g mostFunctions below, short-true samples)
           (within-left (firstOf functions g) (sizeOf functions n g) len h)
 
 -- ---- All functions
 
-pub record Covering (S : Setup) (n : ℕ) (starts : List ℕ) (T₀ T : List ℕ) (stored g : ℕ) : Type 0 where
+pub record Covering (S : Setup) (n : Lengths) (starts : List ℕ) (T₀ T : List ℕ) (stored g : ℕ) : Type 0 where
   pub cells : T ≡ passVisits S n starts g T₀
   pub count : stored ≡ passCounts S n starts g T₀
   pub few : stored ≤ g * mostConfigurations
   pub same : length T ≡ length T₀
 
-pub covering-start : (S : Setup) (n : ℕ) (starts T : List ℕ) → Covering S n starts T T 0 0
+pub covering-start : (S : Setup) (n : Lengths) (starts T : List ℕ) → Covering S n starts T T 0 0
 unfolding passVisits passCounts
 covering-start S n starts T = record { cells = refl; count = refl; few = omega arith; same = refl }
 
-module _ (S : Setup) (n : ℕ) (starts T : List ℕ) (g : ℕ) where
+module _ (S : Setup) (n : Lengths) (starts T : List ℕ) (g : ℕ) where
   pass-more : fits (S .functions) n g (length T) ≡ true
       → passVisits S n starts (g + 1) T ≡ visitsFrom S n g (bodyAt (S .words) (getD starts g 0)) 0 (sizeOf (S .functions) n g) (passVisits S n starts g T)
   unfolding passVisits
@@ -246,7 +265,7 @@ module _ (S : Setup) (n : ℕ) (starts T : List ℕ) (g : ℕ) where
   unfolding passCounts
   counts-over e = rw (add-one, e) (omega arith)
 
-module _ {S : Setup} {n : ℕ} {starts T₀ T : List ℕ} {stored g : ℕ} (u : Covering S n starts T₀ T stored g) where
+module _ {S : Setup} {n : Lengths} {starts T₀ T : List ℕ} {stored g : ℕ} (u : Covering S n starts T₀ T stored g) where
   pub covering-more : fits (S .functions) n g (length T₀) ≡ true → {T′ : List ℕ} {more : ℕ}
       → T′ ≡ visitsFrom S n g (bodyAt (S .words) (getD starts g 0)) 0 (sizeOf (S .functions) n g) T
       → (more ≡ storesFrom S n g (bodyAt (S .words) (getD starts g 0)) 0 (sizeOf (S .functions) n g) T) × (more ≤ mostConfigurations)
@@ -271,7 +290,7 @@ module _ {S : Setup} {n : ℕ} {starts T₀ T : List ℕ} {stored g : ℕ} (u : 
       let all : g ≡ count = omega (arith, h, k) in
       (rw all at (u .cells), rw all at (u .count))
 
-pub length-pass : (S : Setup) (n : ℕ) (starts T : List ℕ) (g : ℕ) → length (passVisits S n starts g T) ≡ length T
+pub length-pass : (S : Setup) (n : Lengths) (starts T : List ℕ) (g : ℕ) → length (passVisits S n starts g T) ≡ length T
 unfolding passVisits
 length-pass S n starts T zero = refl
 length-pass S n starts T (suc g) = go (fits (S .functions) n g (length T)) (length-pass S n starts T g)

@@ -11,11 +11,12 @@ use native.Mathlib.Nat.{mul-le-mul-right}
 use native.Mathlib.Omega.{arith}
 use lib.ListN.{length, set}
 use Rattle.syntax.specs.Limits.{mostParams}
+use Rattle.codes.specs.declared.Lengths.{Lengths}
 use Rattle.passes.specs.Mirror.{Setup, kindsOf, countOf, sizeFrom, sizeOf, valuesInto, envAt, rowWidth, stepped, Ready, RowReady, SameOthers, visitsFrom, storesFrom}
 use Rattle.passes.proofs.Rows.{size-rows, row-values, step-others}
 use Rattle.passes.proofs.PassWays.{Visited, visited-start, visited-length, visited-row, visited-end}
 
-module _ (S : Setup) (n g body : ℕ) (T₀ : List ℕ) where
+module _ (S : Setup) (n : Lengths) (g body : ℕ) (T₀ : List ℕ) where
   abbrev kinds : ℕ
   kinds = kindsOf (S .functions) g
 
@@ -33,7 +34,7 @@ module _ (S : Setup) (n g body : ℕ) (T₀ : List ℕ) where
 
   -- what the values are put into
   abbrev blank : List ℕ
-  blank = 0 ∷ 0 ∷ 0 ∷ 0 ∷ n ∷ []
+  blank = 0 ∷ 0 ∷ 0 ∷ 0 ∷ n .ram ∷ n .guard ∷ []
 
   -- r rows have been visited, up to configuration `base`; env has the values of row r, but for the last parameter's
   pub record Stepping (T env : List ℕ) (stored base r : ℕ) : Type 0 where

@@ -21,26 +21,35 @@ use lib.Dec.{ltb}
 use lib.ListN.{length, getD, set, length-set}
 use lib.Seq.{getD-set-same, getD-set-other, set-getD, set-set, set-comm}
 use borrow.Author.Tests.{lt-ltb, le-ltb, ltb-true, ltb-false}
-use Rattle.trace.specs.{mostSamples, bitOf}
 use Rattle.syntax.specs.Limits.{mostParams}
-use Rattle.codes.specs.{radixOf, lowestCode}
+use Rattle.syntax.specs.Kinds.{kindIn}
+use Rattle.codes.specs.declared.Lengths.{Lengths}
+use Rattle.codes.specs.{Short, guardCode, lowestCode, radixOf}
 use Rattle.passes.specs.Mirror.{mostValues, mostConfigurations, valueNumber, sizeFrom, valuesInto, rowWidth, rowLowest, stepped, SameOthers}
-use Rattle.passes.proofs.SetupLoops.{radix-bound, radix-pos}
+use Rattle.passes.proofs.SetupLoops.{radix-bound, radix-pos, lowest-small}
 
 -- the number of a value that its kind has
-small-number : (list : Bool) (n d : ℕ) → n ≤ mostSamples → d < radixOf list n → valueNumber list d ≡ lowestCode list + d
-small-number true n d h l = omega arith
-small-number false n d h l = omega arith
+small-number : (kind : ℕ) (n : Lengths) (d : ℕ) → Short n → d < radixOf kind n → valueNumber kind d ≡ lowestCode kind + d
+small-number kind n d h l = omega (arith, radix-bound kind n h, lowest-small kind)
 
-module _ (kinds n : ℕ) where
+module _ (kinds : ℕ) where
+  pub lowest-some : (count : ℕ) → (count ≡ 0 → ⊥) → {kind r : ℕ} → kind ≡ kindIn kinds (count - 1) → r ≡ lowestCode kind → r ≡ rowLowest kinds count
+  lowest-some zero z e q = absurd (z refl)
+  lowest-some (suc c) z e q = q ∙ rw (e, sub-one)
+
+  pub lowest-bound : (count : ℕ) → rowLowest kinds count ≤ guardCode
+  lowest-bound zero = omega arith
+  lowest-bound (suc c) = lowest-small (kindIn kinds c)
+
+module _ (kinds : ℕ) (n : Lengths) where
   abbrev radix : ℕ → ℕ
-  radix i = radixOf (bitOf i kinds) n
+  radix i = radixOf (kindIn kinds i) n
 
   abbrev lowest : ℕ → ℕ
-  lowest i = lowestCode (bitOf i kinds)
+  lowest i = lowestCode (kindIn kinds i)
 
   abbrev numberAt : ℕ → ℕ → ℕ
-  numberAt i d = valueNumber (bitOf i kinds) d
+  numberAt i d = valueNumber (kindIn kinds i) d
 
   -- ---- How many there are
 
@@ -58,12 +67,12 @@ module _ (kinds n : ℕ) where
   size-rows zero = refl
   size-rows (suc c) = rw sub-one (size-snoc 0 c ∙ ap (λ (j : ℕ). sizeFrom kinds n 0 c * radix j) (zero-add c))
 
-  size-power : n ≤ mostSamples → (i c : ℕ) → sizeFrom kinds n i c ≤ mostValues ^ c
+  size-power : Short n → (i c : ℕ) → sizeFrom kinds n i c ≤ mostValues ^ c
   unfolding sizeFrom
   size-power few i zero = omega arith
-  size-power few i (suc c) = rw pow-succ' (mul-le-mul (radix-bound (bitOf i kinds) n few) (size-power few (i + 1) c))
+  size-power few i (suc c) = rw pow-succ' (mul-le-mul (radix-bound (kindIn kinds i) n few) (size-power few (i + 1) c))
 
-  pub size-most : n ≤ mostSamples → (c : ℕ) → c ≤ mostParams → sizeFrom kinds n 0 c ≤ mostConfigurations
+  pub size-most : Short n → (c : ℕ) → c ≤ mostParams → sizeFrom kinds n 0 c ≤ mostConfigurations
   size-most few c h = omega (arith, size-power few 0 c, pow-le-pow-right {n = mostValues} (omega arith) h)
 
   -- ---- Places past the parameters
@@ -97,7 +106,7 @@ module _ (kinds n : ℕ) where
       ∙ ap (λ (m : ℕ). valuesInto kinds n (suc c) r (set env (suc c) (numberAt (suc c) m))) (digits-mod r l)
       ∙ values-other (suc c) r env (suc c) (numberAt (suc c) d) (omega arith)
 
-  pub row-values : n ≤ mostSamples → (count r d : ℕ) (env : List ℕ) → getD env 0 0 ≡ 0 → r < sizeFrom kinds n 0 (count - 1) → d < rowWidth kinds n count
+  pub row-values : Short n → (count r d : ℕ) (env : List ℕ) → getD env 0 0 ≡ 0 → r < sizeFrom kinds n 0 (count - 1) → d < rowWidth kinds n count
       → set (valuesInto kinds n (count - 1) r env) (count - 1) (rowLowest kinds count + d) ≡ valuesInto kinds n count (r * rowWidth kinds n count + d) env
   unfolding valuesInto
   row-values few zero r d env z h l =
@@ -106,49 +115,30 @@ module _ (kinds n : ℕ) where
   row-values few (suc c) r d env z h l =
       let back : r < sizeFrom kinds n 0 c = rw sub-one at h in
       rw sub-one
-      (ap (set (valuesInto kinds n c r env) c) (sym (small-number (bitOf c kinds) n d few l)) ∙ sym (last-apart c r d env back l))
+      (ap (set (valuesInto kinds n c r env) c) (sym (small-number (kindIn kinds c) n d few l)) ∙ sym (last-apart c r d env back l))
 
   -- ---- As the code works them out
 
-  module _ (count : ℕ) (some : count ≡ 0 → ⊥) {list : Bool} (e : list ≡ bitOf (count - 1) kinds) where
-    pub width-some : {r : ℕ} → r ≡ radixOf list n → r ≡ rowWidth kinds n count
-    width-some q = go count some (q ∙ rw e)
-      where
-        go : (c : ℕ) → (c ≡ 0 → ⊥) → {r : ℕ} → r ≡ radixOf (bitOf (c - 1) kinds) n → r ≡ rowWidth kinds n c
-        go zero z q = absurd (z refl)
-        go (suc c) z q = q ∙ rw sub-one
+  pub width-some : (count : ℕ) → (count ≡ 0 → ⊥) → {kind r : ℕ} → kind ≡ kindIn kinds (count - 1) → r ≡ radixOf kind n → r ≡ rowWidth kinds n count
+  width-some zero z e q = absurd (z refl)
+  width-some (suc c) z e q = q ∙ rw (e, sub-one)
 
-    pub lowest-some : {r : ℕ} → r ≡ lowestCode list → r ≡ rowLowest kinds count
-    lowest-some q = go count some (q ∙ rw e)
-      where
-        go : (c : ℕ) → (c ≡ 0 → ⊥) → {r : ℕ} → r ≡ lowestCode (bitOf (c - 1) kinds) → r ≡ rowLowest kinds c
-        go zero z q = absurd (z refl)
-        go (suc c) z q = q ∙ rw sub-one
-
-  pub width-bound : n ≤ mostSamples → (count : ℕ) → rowWidth kinds n count ≤ mostValues
+  pub width-bound : Short n → (count : ℕ) → rowWidth kinds n count ≤ mostValues
   width-bound few zero = omega arith
-  width-bound few (suc c) = radix-bound (bitOf c kinds) n few
+  width-bound few (suc c) = radix-bound (kindIn kinds c) n few
 
-  pub lowest-bound : (count : ℕ) → rowLowest kinds count ≤ 5
-  lowest-bound zero = omega arith
-  lowest-bound (suc c) = go (bitOf c kinds)
-    where
-      go : (b : Bool) → lowestCode b ≤ 5
-      go true = omega arith
-      go false = omega arith
-
-  module _ (i : ℕ) (env : List ℕ) (some : 0 < i) {list : Bool} {low K next : ℕ} (b : list ≡ bitOf (i - 1) kinds) (l : low ≡ lowestCode list)
-      (k : K ≡ radixOf list n) (x : next ≡ getD env (i - 1) 0 + 1) where
+  module _ (i : ℕ) (env : List ℕ) (some : 0 < i) {kind : ℕ} {low K next : ℕ} (b : kind ≡ kindIn kinds (i - 1)) (l : low ≡ lowestCode kind)
+      (k : K ≡ radixOf kind n) (x : next ≡ getD env (i - 1) 0 + 1) where
     pub step-stops : next < low + K → {all : List ℕ} → all ≡ stepped kinds n i env → set env (i - 1) next ≡ all
     unfolding stepped
     step-stops h q = go i some b x q
       where
-        go : (i : ℕ) → 0 < i → list ≡ bitOf (i - 1) kinds → next ≡ getD env (i - 1) 0 + 1 → {all : List ℕ} → all ≡ stepped kinds n i env
+        go : (i : ℕ) → 0 < i → kind ≡ kindIn kinds (i - 1) → next ≡ getD env (i - 1) 0 + 1 → {all : List ℕ} → all ≡ stepped kinds n i env
             → set env (i - 1) next ≡ all
         go zero z b x q = absurd (omega arith)
         go (suc i) z b x q =
             let same : i ≡ suc i - 1 = omega arith in
-            let test : getD env i 0 + 1 < lowestCode (bitOf i kinds) + radixOf (bitOf i kinds) n = rw (same, ← b, ← l, ← k, ← x) h in
+            let test : getD env i 0 + 1 < lowestCode (kindIn kinds i) + radixOf (kindIn kinds i) n = rw (same, ← b, ← l, ← k, ← x) h in
             let up : next ≡ getD env i 0 + 1 = rw same x in
             rw (← same) (ap (set env i) up ∙ sym (q ∙ rw (lt-ltb _ _ test)))
 
@@ -156,13 +146,13 @@ module _ (kinds n : ℕ) where
     unfolding stepped
     step-goes h q = go i some b x q
       where
-        go : (i : ℕ) → 0 < i → list ≡ bitOf (i - 1) kinds → next ≡ getD env (i - 1) 0 + 1 → {all : List ℕ} → all ≡ stepped kinds n i env
+        go : (i : ℕ) → 0 < i → kind ≡ kindIn kinds (i - 1) → next ≡ getD env (i - 1) 0 + 1 → {all : List ℕ} → all ≡ stepped kinds n i env
             → all ≡ stepped kinds n (i - 1) (set env (i - 1) low)
         go zero z b x q = absurd (omega arith)
         go (suc i) z b x q =
             let same : i ≡ suc i - 1 = omega arith in
-            let test : lowestCode (bitOf i kinds) + radixOf (bitOf i kinds) n ≤ getD env i 0 + 1 = rw (same, ← b, ← l, ← k, ← x) h in
-            let first : lowestCode (bitOf i kinds) ≡ low = rw (same, ← b) (sym l) in
+            let test : lowestCode (kindIn kinds i) + radixOf (kindIn kinds i) n ≤ getD env i 0 + 1 = rw (same, ← b, ← l, ← k, ← x) h in
+            let first : lowestCode (kindIn kinds i) ≡ low = rw (same, ← b) (sym l) in
             rw (← same) (q ∙ rw (le-ltb _ _ test, first))
 
   pub step-whole : (i : ℕ) (env : List ℕ) {all : List ℕ} → all ≡ stepped kinds n i env → i ≤ 0 → env ≡ all
@@ -186,22 +176,22 @@ module _ (kinds n : ℕ) where
       go ih false = ap (stepped kinds n c) (set-comm env j c v _ (λ e. omega arith)) ∙ ih (set env c (lowest c))
 
   -- one digit up, where it has not reached its kind's last value, and where it has
-  step-up : (c : ℕ) (env : List ℕ) (d : ℕ) → n ≤ mostSamples → c < length env → getD env c 0 ≡ numberAt c d → d + 1 < radix c
+  step-up : (c : ℕ) (env : List ℕ) (d : ℕ) → Short n → c < length env → getD env c 0 ≡ numberAt c d → d + 1 < radix c
       → stepped kinds n (suc c) env ≡ set env c (numberAt c (d + 1))
   unfolding stepped
   step-up c env d few room e h =
-      let now = small-number (bitOf c kinds) n d few (omega arith) in
-      let next = small-number (bitOf c kinds) n (d + 1) few h in
+      let now = small-number (kindIn kinds c) n d few (omega arith) in
+      let next = small-number (kindIn kinds c) n (d + 1) few h in
       let test : getD env c 0 + 1 < lowest c + radix c = omega arith in
       let up : getD env c 0 + 1 ≡ numberAt c (d + 1) = omega arith in
       rw (lt-ltb _ _ test, up)
 
-  step-carry : (c : ℕ) (env : List ℕ) (d : ℕ) → n ≤ mostSamples → getD env c 0 ≡ numberAt c d → d < radix c → radix c ≤ d + 1
+  step-carry : (c : ℕ) (env : List ℕ) (d : ℕ) → Short n → getD env c 0 ≡ numberAt c d → d < radix c → radix c ≤ d + 1
       → stepped kinds n (suc c) env ≡ stepped kinds n c (set env c (numberAt c 0))
   unfolding stepped
   step-carry c env d few e l h =
-      let now = small-number (bitOf c kinds) n d few l in
-      let first = small-number (bitOf c kinds) n 0 few (radix-pos (bitOf c kinds) n) in
+      let now = small-number (kindIn kinds c) n d few l in
+      let first = small-number (kindIn kinds c) n 0 few (radix-pos (kindIn kinds c) n) in
       let test : lowest c + radix c ≤ getD env c 0 + 1 = omega arith in
       let low : lowest c ≡ numberAt c 0 = omega arith in
       rw (le-ltb _ _ test) (ap (λ (v : ℕ). stepped kinds n c (set env c v)) low)
@@ -229,7 +219,7 @@ module _ (kinds n : ℕ) where
   length-values (suc (suc c)) x env = length-values (suc c) _ _ ∙ length-set env (suc c) _
 
   -- the last digit stepped, the others by what is known of them
-  module _ (few : n ≤ mostSamples) (c x : ℕ) (env : List ℕ) (room : suc c < length env) where
+  module _ (few : Short n) (c x : ℕ) (env : List ℕ) (room : suc c < length env) where
     abbrev i : ℕ
     i = suc c
 
@@ -240,7 +230,7 @@ module _ (kinds n : ℕ) where
     before = set env i (numberAt i (x % K))
 
     pos : 0 < K
-    pos = radix-pos (bitOf (suc c) kinds) n
+    pos = radix-pos (kindIn kinds (suc c)) n
 
     digit-here : getD (valuesInto kinds n i (x / K) before) i 0 ≡ numberAt i (x % K)
     digit-here = values-above i (x / K) before i (omega arith) ∙ getD-set-same env i (numberAt i (x % K)) 0 room
@@ -280,7 +270,7 @@ module _ (kinds n : ℕ) where
         ∙ ap (λ (q : ℕ). valuesInto kinds n i q (set env i (numberAt i 0))) (u .0)
         ∙ ap (λ (m : ℕ). valuesInto kinds n i ((x + 1) / K) (set env i (numberAt i m))) (u .1)
 
-  pub step-values : n ≤ mostSamples → (c x : ℕ) (env : List ℕ) → c ≤ length env → x + 1 < sizeFrom kinds n 0 c
+  pub step-values : Short n → (c x : ℕ) (env : List ℕ) → c ≤ length env → x + 1 < sizeFrom kinds n 0 c
       → stepped kinds n c (valuesInto kinds n c x env) ≡ valuesInto kinds n c (x + 1) env
   unfolding valuesInto sizeFrom
   step-values few zero x env h l = absurd (omega arith)
@@ -294,7 +284,7 @@ module _ (kinds n : ℕ) where
       (ltb (x % radix (suc c) + 1) (radix (suc c))) refl
 
   -- from row to row, whatever stands in the last parameter's place
-  pub step-others : n ≤ mostSamples → (c x : ℕ) (env now : List ℕ) {next : List ℕ} → c ≤ length env → x + 1 < sizeFrom kinds n 0 c
+  pub step-others : Short n → (c x : ℕ) (env now : List ℕ) {next : List ℕ} → c ≤ length env → x + 1 < sizeFrom kinds n 0 c
       → SameOthers c (valuesInto kinds n c x env) now → next ≡ stepped kinds n c now → SameOthers c (valuesInto kinds n c (x + 1) env) next
   step-others few c x env now h l e q v =
       ap (λ (m : List ℕ). set m c v) q

@@ -1,41 +1,67 @@
 -- Laws of setting up, for each loop of the code its start, a turn, its end:
---   radix-bound, radix-pos                             how many values a kind has
+--   shortened-short, short-shortened                   lengths cut to those that traces can have
+--   radix-bound, radix-pos, lowest-small               how many values a kind has, and the number of the first
 --   Product, size-start, size-more, size-fits,
 --   size-whole                                         the product of the sizes of parameters, from the last down
+--   size-nonzero                                       every function has a configuration
 --   values-more, values-one, values-none               the values of parameters, from the last down
 --   Listed, listed-start, listed-more,
 --   cells-listed, functions-of, total-of               the array of functions and the total
---   Traced, traced-start, traced-more, traced-whole    the bytes of the trace
+--   traces-whole                                       the bytes of the traces, copied into zeros
 use mathlib.Core.Path.{_≡_, refl, sym, ap, _∙_}
-use mathlib.Core.Bool.{Bool, true, false}
-use mathlib.Core.List.{List}
+use mathlib.Core.Bool.{Bool, true, false, cond}
+use mathlib.Core.List.{List, [], _++_, append-assoc}
 use Prim.Native.Nat.{ℕ, zero, suc, _+_, _-_, _*_, _/_, _%_, _^_, _<_, _≤_, min}
-use native.Mathlib.Nat.{mul-le-mul, pow-succ', pow-le-pow-right, min-eq-left, min-eq-right}
+use native.Mathlib.Nat.{mul-pos, mul-le-mul, pow-succ', pow-le-pow-right, min-eq-left}
 use native.Mathlib.Numerals.{add-one, sub-one}
 use native.Mathlib.Omega.{arith}
-use lib.Dec.{leb}
-use lib.ListN.{length, getD, set, take, replicate}
-use lib.Seq.{take-all, take-suc, length-take-le}
-use borrow.Author.Tests.{leb-true, leb-false}
-use Rattle.trace.specs.{mostSamples, bitOf}
+use lib.Dec.{eqb}
+use lib.ListN.{length, getD, set, take, drop, replicate, length-take, replicate-append-replicate}
+use lib.Seq.{take-length, take-at, drop-at, drop-drop, paste}
 use Rattle.syntax.specs.Limits.{mostFunctions, mostParams}
+use Rattle.syntax.specs.Kinds.{truthKind, guardKind, kindIn}
 use Rattle.rule.specs.Form.{padded}
 use Rattle.rule.specs.Walk.{atMostFour}
-use Rattle.rule.proofs.Padded.{set-padded}
-use Rattle.codes.specs.{radixOf}
-use Rattle.passes.specs.Mirror.{mostValues, mostConfigurations, valueNumber, sizeFrom, valuesInto, totalBefore, functionsUpto, functionsOf, totalOf}
+use Rattle.rule.proofs.Padded.{length-padded}
+use Rattle.codes.specs.declared.Lengths.{Lengths}
+use Rattle.codes.specs.{Short, guardCode, lowestCode, mostTraceBytes, radixOf}
+use Rattle.passes.specs.Mirror.{mostValues, mostConfigurations, shortened, valueNumber, sizeFrom, valuesInto, tracesOf}
+use Rattle.passes.specs.Mirror.{Heads, signatureAt, totalBefore, functionsUpto, functionsOf, totalOf}
+
+-- ---- Lengths
+
+pub shortened-short : (n : Lengths) → Short n → shortened n ≡ n
+shortened-short n h = rw (min-eq-left (h .0), min-eq-left (h .1))
+
+pub short-shortened : {m : Lengths} (n : Lengths) → m ≡ shortened n → Short m
+short-shortened n e = rw e (omega arith, omega arith)
 
 -- ---- Sizes
 
-pub radix-bound : (list : Bool) (n : ℕ) → n ≤ mostSamples → radixOf list n ≤ mostValues
-radix-bound true n h = omega arith
-radix-bound false n h = omega arith
+pub radix-bound : (kind : ℕ) (n : Lengths) → Short n → radixOf kind n ≤ mostValues
+radix-bound kind n h = go (eqb kind truthKind) (eqb kind guardKind)
+  where
+    go : (b g : Bool) → cond b 2 (cond g (n .guard) (n .ram) + 1) ≤ mostValues
+    go true g = omega arith
+    go false true = omega (arith, h .1)
+    go false false = omega (arith, h .0)
 
-pub radix-pos : (list : Bool) (n : ℕ) → 0 < radixOf list n
-radix-pos true n = omega arith
-radix-pos false n = omega arith
+pub radix-pos : (kind : ℕ) (n : Lengths) → 0 < radixOf kind n
+radix-pos kind n = go (eqb kind truthKind)
+  where
+    go : (b : Bool) → 0 < cond b 2 (cond (eqb kind guardKind) (n .guard) (n .ram) + 1)
+    go true = omega arith
+    go false = omega arith
 
-module _ (kinds n count : ℕ) where
+pub lowest-small : (kind : ℕ) → lowestCode kind ≤ guardCode
+lowest-small kind = go (eqb kind truthKind) (eqb kind guardKind)
+  where
+    go : (b g : Bool) → cond b 1 (cond g guardCode 5) ≤ guardCode
+    go true g = omega arith
+    go false true = omega arith
+    go false false = omega arith
+
+module _ (kinds : ℕ) (n : Lengths) (count : ℕ) where
   -- the product of the parameters from i on
   pub record Product (product i : ℕ) : Type 0 where
     pub below : i ≤ count
@@ -48,14 +74,14 @@ module _ (kinds n count : ℕ) where
       let e : count - count ≡ 0 = omega arith in
       record { below = omega arith; size = rw e; bound = rw e (omega arith) }
 
-  pub size-more : (i : ℕ) {product radix : ℕ} {list : Bool} → Product product i → 0 < i → n ≤ mostSamples
-      → list ≡ bitOf (i - 1) kinds → radix ≡ radixOf list n
+  pub size-more : (i : ℕ) {product radix kind : ℕ} → Product product i → 0 < i → Short n
+      → kind ≡ kindIn kinds (i - 1) → radix ≡ radixOf kind n
       → Product (radix * product) (i - 1)
   unfolding sizeFrom
   size-more zero u h few b r = absurd (omega arith)
-  size-more (suc i) {product} {radix} {list} u h few b r =
+  size-more (suc i) {product} {radix} {kind} u h few b r =
       let k : count - i ≡ suc (count - suc i) = omega (arith, u .below) in
-      let top : radix ≤ mostValues = rw r (radix-bound list n few) in
+      let top : radix ≤ mostValues = rw r (radix-bound kind n few) in
       record {
         below = omega (arith, u .below);
         size = simp (sub-one, k, add-one, r, b, u .size);
@@ -69,19 +95,24 @@ module _ (kinds n count : ℕ) where
   size-whole zero u h = let k : count - 0 ≡ count = omega arith in rw k at (u .size)
   size-whole (suc i) u h = absurd (omega arith)
 
+pub size-nonzero : (kinds : ℕ) (n : Lengths) (i count : ℕ) → 0 < sizeFrom kinds n i count
+unfolding sizeFrom
+size-nonzero kinds n i zero = omega arith
+size-nonzero kinds n i (suc c) = mul-pos (radix-pos (kindIn kinds i) n) (size-nonzero kinds n (i + 1) c)
+
 -- ---- Values
 
-module _ (kinds n : ℕ) where
-  pub values-more : (i rest : ℕ) (env : List ℕ) {list : Bool} {radix value : ℕ} {all : List ℕ} → all ≡ valuesInto kinds n i rest env → 1 < i
-      → list ≡ bitOf (i - 1) kinds → radix ≡ radixOf list n → value ≡ valueNumber list (rest % radix)
+module _ (kinds : ℕ) (n : Lengths) where
+  pub values-more : (i rest : ℕ) (env : List ℕ) {kind radix value : ℕ} {all : List ℕ} → all ≡ valuesInto kinds n i rest env → 1 < i
+      → kind ≡ kindIn kinds (i - 1) → radix ≡ radixOf kind n → value ≡ valueNumber kind (rest % radix)
       → all ≡ valuesInto kinds n (i - 1) (rest / radix) (set env (i - 1) value)
   unfolding valuesInto
   values-more zero rest env e h b r v = absurd (omega arith)
   values-more (suc zero) rest env e h b r v = absurd (omega arith)
   values-more (suc (suc i)) rest env e h b r v = simp (v, r, b, sub-one) e
 
-  pub values-one : (i rest : ℕ) (env : List ℕ) {list : Bool} {value : ℕ} {all : List ℕ} → all ≡ valuesInto kinds n i rest env → i ≤ 1 → 0 < i
-      → list ≡ bitOf 0 kinds → value ≡ valueNumber list rest → set env 0 value ≡ all
+  pub values-one : (i rest : ℕ) (env : List ℕ) {kind value : ℕ} {all : List ℕ} → all ≡ valuesInto kinds n i rest env → i ≤ 1 → 0 < i
+      → kind ≡ kindIn kinds 0 → value ≡ valueNumber kind rest → set env 0 value ≡ all
   unfolding valuesInto
   values-one zero rest env e l h b v = absurd (omega arith)
   values-one (suc zero) rest env e l h b v = simp (v, b) (sym e)
@@ -94,87 +125,86 @@ module _ (kinds n : ℕ) where
 
 -- ---- Functions
 
-module _ (kinds params : List ℕ) (n : ℕ) where
+module _ (H : Heads) (n : Lengths) where
   -- the functions before g
   pub record Listed (functions : List ℕ) (total g : ℕ) : Type 0 where
-    pub array : functions ≡ functionsUpto kinds params n g
-    pub sum : total ≡ totalBefore kinds params n g
+    pub array : functions ≡ functionsUpto H n g
+    pub sum : total ≡ totalBefore H n g
     pub bound : total ≤ g * mostConfigurations
 
   pub listed-start : Listed (replicate 96 0) 0 0
   unfolding functionsUpto totalBefore
   listed-start = record { array = refl; sum = refl; bound = omega arith }
 
-  pub listed-more : (g : ℕ) {functions : List ℕ} {total k p count size : ℕ} → Listed functions total g → k ≡ getD kinds g 0 → p ≡ getD params g 0
-      → count ≡ atMostFour (getD params g 0) → (size ≡ sizeFrom k n 0 count) × (size ≤ mostConfigurations)
+  pub listed-more : (g : ℕ) {functions : List ℕ} {total k p count size : ℕ} → Listed functions total g → k ≡ signatureAt H g → p ≡ getD (H .params) g 0
+      → count ≡ atMostFour (getD (H .params) g 0) → (size ≡ sizeFrom k n 0 count) × (size ≤ mostConfigurations)
       → Listed (set (set (set functions g total) (32 + g) k) (64 + g) p) (total + size) (g + 1)
   unfolding functionsUpto totalBefore
   listed-more g u ek ep c s =
       record {
         array = simp (add-one, u .array, u .sum, ek, ep);
-        sum = simp (add-one, u .sum, s .0, c, ek, ep);
+        sum = simp (add-one, u .sum, s .0, c, ek);
         bound = omega (arith, u .bound, s .1);
       }
 
   -- what the loop answers for so many
   listed-whole : (count g : ℕ) {functions : List ℕ} {total : ℕ} → Listed functions total g → g ≤ count → count ≤ g
-      → (functions ≡ functionsUpto kinds params n count) × (total ≡ totalBefore kinds params n count)
+      → (functions ≡ functionsUpto H n count) × (total ≡ totalBefore H n count)
   listed-whole count g u l h =
       let e : g ≡ count = omega arith in
-      (u .array ∙ ap (functionsUpto kinds params n) e, u .sum ∙ ap (totalBefore kinds params n) e)
+      (u .array ∙ ap (functionsUpto H n) e, u .sum ∙ ap (totalBefore H n) e)
 
-module _ (kinds params : List ℕ) (n count : ℕ) where
-  pub cells-listed : (g : ℕ) {samples last : ℕ} {functions : List ℕ} {total : ℕ} → samples ≡ min n mostSamples → last ≡ min count mostFunctions
-      → Listed kinds params samples functions total g → g ≤ last → last ≤ g
-      → (functions ≡ functionsOf kinds params n count) × (total ≡ totalOf kinds params n count)
+module _ (H : Heads) (n : Lengths) (count : ℕ) where
+  pub cells-listed : (g : ℕ) {samples : Lengths} {last : ℕ} {functions : List ℕ} {total : ℕ} → samples ≡ shortened n → last ≡ min count mostFunctions
+      → Listed H samples functions total g → g ≤ last → last ≤ g
+      → (functions ≡ functionsOf H n count) × (total ≡ totalOf H n count)
   unfolding functionsOf totalOf
-  cells-listed g {samples} {last} s l u h k = rw l at (rw s at (listed-whole kinds params samples last g u h k))
+  cells-listed g {samples} {last} s l u h k = rw l at (rw s at (listed-whole H samples last g u h k))
 
-  -- a count and a length that are not too large
-  pub functions-of : n ≤ mostSamples → count ≤ mostFunctions → functionsOf kinds params n count ≡ functionsUpto kinds params n count
+  -- a count and lengths that are not too large
+  pub functions-of : Short n → count ≤ mostFunctions → functionsOf H n count ≡ functionsUpto H n count
   unfolding functionsOf
-  functions-of h k = rw (min-eq-left h, min-eq-left k)
+  functions-of h k = rw (shortened-short n h, min-eq-left k)
 
-  pub total-of : n ≤ mostSamples → count ≤ mostFunctions → totalOf kinds params n count ≡ totalBefore kinds params n count
+  pub total-of : Short n → count ≤ mostFunctions → totalOf H n count ≡ totalBefore H n count
   unfolding totalOf
-  total-of h k = rw (min-eq-left h, min-eq-left k)
+  total-of h k = rw (shortened-short n h, min-eq-left k)
 
--- ---- The trace
+-- ---- The traces
 
--- the first N of a list, by how many they are
-take-min : (N : ℕ) (l : List ℕ) → take (min N (length l)) l ≡ take N l
-take-min N l = go (leb N (length l)) refl
-  where
-    go : (b : Bool) → leb N (length l) ≡ b → take (min N (length l)) l ≡ take N l
-    go true e = ap (λ (k : ℕ). take k l) (min-eq-left (leb-true N (length l) e))
-    go false e =
-        let h : length l ≤ N = omega (arith, leb-false N (length l) e) in
-        ap (λ (k : ℕ). take k l) (min-eq-right h) ∙ take-all (length l) l (omega arith) ∙ sym (take-all N l h)
+drop-copies : (k m z : ℕ) → drop k (replicate m z) ≡ replicate (m - k) z
+drop-copies zero m z = let e : m - 0 ≡ m = omega arith in rw e
+drop-copies (suc k) zero z = let e : 0 - suc k ≡ 0 = omega arith in rw e
+drop-copies (suc k) (suc m) z = let e : suc m - suc k ≡ m - k = omega arith in rw e (drop-copies k m z)
 
-module _ (N : ℕ) (trace : List ℕ) where
-  -- the first i bytes stand with zeros after them
-  pub record Traced (bytes : List ℕ) (i : ℕ) : Type 0 where
-    pub below : i ≤ min N (length trace)
-    pub whole : bytes ≡ padded N 0 (take i trace)
+-- copied into zeros that come after other bytes
+pasted-after : (x : List ℕ) (m : ℕ) (s : List ℕ) {at : ℕ} → length x ≡ at → paste (x ++ replicate m 0) at s (length s) ≡ x ++ padded m 0 s
+unfolding padded
+pasted-after x m s {at} e =
+    rw (
+      take-at x (replicate m 0) at e,
+      take-length s,
+      ← drop-drop (length s) at (x ++ replicate m 0),
+      drop-at x (replicate m 0) at e,
+      drop-copies (length s) m 0,
+      append-assoc,
+    )
 
-  pub traced-start : Traced (replicate N 0) 0
-  unfolding padded
-  traced-start = record { below = omega arith; whole = let e : N - 0 ≡ N = omega arith in rw e }
+padded-more : (a b : ℕ) (s : List ℕ) → length s ≤ a → padded (a + b) 0 s ≡ padded a 0 s ++ replicate b 0
+unfolding padded
+padded-more a b s h =
+    let e : a + b - length s ≡ a - length s + b = omega arith in
+    rw (e, ← replicate-append-replicate {A = ℕ} (a - length s) b 0, append-assoc)
 
-  pub traced-more : (i : ℕ) {bytes : List ℕ} → Traced bytes i → i < min N (length trace) → Traced (set bytes i (getD trace i 0)) (i + 1)
-  traced-more i u h =
-      let long : length (take i trace) ≡ i = length-take-le i trace (omega arith) in
-      let room : length (take i trace) < N = omega arith in
-      record {
-        below = omega arith;
-        whole =
-            rw (u .whole)
-            (ap (λ (k : ℕ). set (padded N 0 (take i trace)) k (getD trace i 0)) (sym long)
-            ∙ set-padded N 0 (take i trace) (getD trace i 0) room
-            ∙ ap (padded N 0) (sym (take-suc trace i 0 (omega arith)) ∙ ap (λ (k : ℕ). take k trace) (sym (add-one i))));
-      }
-
-  pub traced-whole : (i : ℕ) {bytes : List ℕ} → Traced bytes i → min N (length trace) ≤ i → bytes ≡ padded N 0 (take N trace)
-  traced-whole i u h =
-      let all : i ≡ min N (length trace) = omega (arith, u .below) in
-      u .whole ∙ ap (padded N 0) (ap (λ (k : ℕ). take k trace) all ∙ take-min N trace)
+pub traces-whole : (ram guard : List ℕ) {bytes all : List ℕ}
+    → bytes ≡ paste (replicate 1024 0) 0 (take mostTraceBytes ram) (length (take mostTraceBytes ram))
+    → all ≡ paste bytes mostTraceBytes (take mostTraceBytes guard) (length (take mostTraceBytes guard)) → all ≡ tracesOf ram guard
+unfolding tracesOf
+traces-whole ram guard e f =
+    let R = take mostTraceBytes ram in
+    let G = take mostTraceBytes guard in
+    let short : length R ≤ mostTraceBytes = omega (arith, length-take mostTraceBytes ram) in
+    let first = pasted-after [] 1024 R refl ∙ padded-more mostTraceBytes mostTraceBytes R short in
+    f
+    ∙ ap (λ (l : List ℕ). paste l mostTraceBytes G (length G)) (e ∙ first)
+    ∙ pasted-after (padded mostTraceBytes 0 R) mostTraceBytes G (length-padded mostTraceBytes 0 R short)

@@ -1,15 +1,18 @@
 -- A mirror of the code: outcomes as their numbers, bodies by their decoded words, functions by an array of first cells,
--- kinds bytes and counts. No reader need believe it: proofs/ shows that it comes to what the rules say.
+-- signatures and counts. No reader need believe it: proofs/ shows that it comes to what the rules say.
 use Prim.Native.Nat.{ℕ, zero, suc, _+_, _-_, _*_, _/_, _%_, _<_, _≤_, min}
 use mathlib.Core.Path.{_≡_}
 use mathlib.Core.Bool.{Bool, _&&_, cond}
 use mathlib.Core.List.{List, [], _∷_, _++_}
 use lib.Dec.{ltb, leb, eqb}
-use lib.ListN.{length, getD, set, drop, replicate}
-use Rattle.trace.specs.{mostSamples, bitOf}
+use lib.ListN.{length, getD, set, take, drop, replicate}
+use Rattle.trace.specs.{mostSamples}
 use Rattle.semantics.specs.Cells.{undecidedCode}
-use Rattle.codes.specs.{radixOf, valueCode, lowestCode}
+use Rattle.codes.specs.declared.Lengths.{Lengths}
+use Rattle.codes.specs.{mostTraceBytes, Short, radixOf, valueCode, lowestCode, cellCode}
 use Rattle.syntax.specs.Limits.{mostFunctions, mostBytes, mostDepth}
+use Rattle.syntax.specs.Kinds.{signatureOf, kindIn}
+use Rattle.rule.specs.Form.{padded}
 use Rattle.rule.specs.Walk.{atMostFour}
 use Rattle.decoding.specs.Words.{heldIn}
 use Rattle.evaluator.specs.{digitBound, functionAt, evalWord}
@@ -24,54 +27,62 @@ mostValues = suc mostSamples
 abbrev pub mostConfigurations : ℕ
 mostConfigurations = 281474976710656
 
--- how many configurations so many parameters have, from parameter i on
-unfoldable pub sizeFrom : ℕ → ℕ → ℕ → ℕ → ℕ
-sizeFrom kinds n i zero = 1
-sizeFrom kinds n i (suc left) = radixOf (bitOf i kinds) n * sizeFrom kinds n (i + 1) left
+-- whether traces can have such lengths
+abbrev pub short : Lengths → Bool
+short n = leb (n .ram) mostSamples && leb (n .guard) mostSamples
 
--- the number of a value of a kind, by its digit
-abbrev pub valueNumber : Bool → ℕ → ℕ
-valueNumber list digit = valueCode list (digit % digitBound) % digitBound
+-- lengths cut to such
+abbrev pub shortened : Lengths → Lengths
+shortened n = record { ram = min (n .ram) mostSamples; guard = min (n .guard) mostSamples }
+
+-- how many configurations so many parameters have, from parameter i on
+unfoldable pub sizeFrom : ℕ → Lengths → ℕ → ℕ → ℕ
+sizeFrom kinds n i zero = 1
+sizeFrom kinds n i (suc left) = radixOf (kindIn kinds i) n * sizeFrom kinds n (i + 1) left
+
+-- the working number of a value of a kind, by its digit
+abbrev pub valueNumber : ℕ → ℕ → ℕ
+valueNumber kind digit = valueCode kind (digit % digitBound) % digitBound
 
 -- the numbers of the values of parameters 0 to i - 1 in configuration `index`, put into env
-unfoldable pub valuesInto : ℕ → ℕ → ℕ → ℕ → List ℕ → List ℕ
+unfoldable pub valuesInto : ℕ → Lengths → ℕ → ℕ → List ℕ → List ℕ
 valuesInto kinds n zero index env = env
-valuesInto kinds n (suc zero) index env = set env 0 (valueNumber (bitOf 0 kinds) index)
+valuesInto kinds n (suc zero) index env = set env 0 (valueNumber (kindIn kinds 0) index)
 valuesInto kinds n (suc (suc i)) index env =
-    let radix = radixOf (bitOf (suc i) kinds) n in
-    valuesInto kinds n (suc i) (index / radix) (set env (suc i) (valueNumber (bitOf (suc i) kinds) (index % radix)))
+    let radix = radixOf (kindIn kinds (suc i)) n in
+    valuesInto kinds n (suc i) (index / radix) (set env (suc i) (valueNumber (kindIn kinds (suc i)) (index % radix)))
 
 -- A row: the configurations in which only the last parameter differs. Where there is no parameter, a row has one
 -- configuration, and parameter 0 stands for the last with the one number 0.
 
-abbrev pub rowWidth : ℕ → ℕ → ℕ → ℕ
+abbrev pub rowWidth : ℕ → Lengths → ℕ → ℕ
 rowWidth kinds n zero = 1
-rowWidth kinds n (suc c) = radixOf (bitOf c kinds) n
+rowWidth kinds n (suc c) = radixOf (kindIn kinds c) n
 
 -- the number of the last parameter's first value
 abbrev pub rowLowest : ℕ → ℕ → ℕ
 rowLowest kinds zero = 0
-rowLowest kinds (suc c) = lowestCode (bitOf c kinds)
+rowLowest kinds (suc c) = lowestCode (kindIn kinds c)
 
 -- the values of so many parameters stepped as digits: the last goes up by one, with a carry to the left where it has
 -- reached its kind's last value
-unfoldable pub stepped : ℕ → ℕ → ℕ → List ℕ → List ℕ
+unfoldable pub stepped : ℕ → Lengths → ℕ → List ℕ → List ℕ
 stepped kinds n zero env = env
 stepped kinds n (suc i) env =
-    let list = bitOf i kinds in
-    cond (ltb (getD env i 0 + 1) (lowestCode list + radixOf list n)) (set env i (getD env i 0 + 1))
-    (stepped kinds n i (set env i (lowestCode list)))
+    let kind = kindIn kinds i in
+    cond (ltb (getD env i 0 + 1) (lowestCode kind + radixOf kind n)) (set env i (getD env i 0 + 1))
+    (stepped kinds n i (set env i (lowestCode kind)))
 
 -- ---- The arrays of an evaluation
 
--- what an evaluation does not change: words, functions and the bytes of the trace
+-- what an evaluation does not change: words, functions and the bytes of both traces
 pub record Setup : Type 0 where
   pub words : List ℕ
   pub functions : List ℕ
-  pub trace : List ℕ
+  pub traces : List ℕ
 
 abbrev pub setup : List ℕ → List ℕ → List ℕ → Setup
-setup words functions trace = record { words = words; functions = functions; trace = trace }
+setup words functions traces = record { words = words; functions = functions; traces = traces }
 
 abbrev pub firstOf : List ℕ → ℕ → ℕ
 firstOf functions g = getD functions g 0
@@ -88,53 +99,53 @@ bodyAt words start = getD words (start % mostBytes) 0
 
 -- ---- Cells and passes
 
-abbrev pub sizeOf : List ℕ → ℕ → ℕ → ℕ
+abbrev pub sizeOf : List ℕ → Lengths → ℕ → ℕ
 sizeOf functions n g = sizeFrom (kindsOf functions g) n 0 (countOf functions g)
 
--- the parameter values of configuration `index` of a function, with the length of the trace
-abbrev pub envAt : List ℕ → ℕ → ℕ → ℕ → List ℕ
-envAt functions n g index = valuesInto (kindsOf functions g) n (countOf functions g) index (0 ∷ 0 ∷ 0 ∷ 0 ∷ n ∷ [])
+-- the parameter values of configuration `index` of a function, with the lengths of the traces
+abbrev pub envAt : List ℕ → Lengths → ℕ → ℕ → List ℕ
+envAt functions n g index = valuesInto (kindsOf functions g) n (countOf functions g) index (0 ∷ 0 ∷ 0 ∷ 0 ∷ n .ram ∷ n .guard ∷ [])
 
 -- the number of the outcome of a configuration's body, with calls looked up in the table
-unfoldable pub filledAt : Setup → ℕ → ℕ → ℕ → List ℕ → ℕ → ℕ
-filledAt S n g body table index = evalWord (S .words) (S .trace) table (envAt (S .functions) n g index) mostDepth body
+unfoldable pub filledAt : Setup → Lengths → ℕ → ℕ → List ℕ → ℕ → ℕ
+filledAt S n g body table index = evalWord (S .words) (S .traces) table (envAt (S .functions) n g index) mostDepth body
 
--- a table with a number stored in a cell, unless it is that of undecided
+-- a table with a working number stored in a cell, unless it is that of undecided
 abbrev pub putIn : List ℕ → ℕ → ℕ → List ℕ
-putIn table cell c = cond (eqb c undecidedCode) table (set table cell c)
+putIn table cell c = cond (eqb c undecidedCode) table (set table cell (cellCode c))
 
 -- what the visit of a configuration stores; undecided for nothing
-unfoldable pub storedAt : Setup → ℕ → ℕ → ℕ → List ℕ → ℕ → ℕ
+unfoldable pub storedAt : Setup → Lengths → ℕ → ℕ → List ℕ → ℕ → ℕ
 storedAt S n g body table index =
     cond (eqb (heldIn (functionAt (S .words) g) (getD table (firstOf (S .functions) g + index) 0)) undecidedCode)
     (filledAt S n g body table index)
     undecidedCode
 
-unfoldable pub visitAt : Setup → ℕ → ℕ → ℕ → List ℕ → ℕ → List ℕ
+unfoldable pub visitAt : Setup → Lengths → ℕ → ℕ → List ℕ → ℕ → List ℕ
 visitAt S n g body table index = putIn table (firstOf (S .functions) g + index) (storedAt S n g body table index)
 
 abbrev pub oneUnless : ℕ → ℕ
 oneUnless c = cond (eqb c undecidedCode) 0 1
 
 -- so many configurations of a function, from one on
-unfoldable pub visitsFrom : Setup → ℕ → ℕ → ℕ → ℕ → ℕ → List ℕ → List ℕ
+unfoldable pub visitsFrom : Setup → Lengths → ℕ → ℕ → ℕ → ℕ → List ℕ → List ℕ
 visitsFrom S n g body base zero table = table
 visitsFrom S n g body base (suc i) table = visitAt S n g body (visitsFrom S n g body base i table) (base + i)
 
-unfoldable pub storesFrom : Setup → ℕ → ℕ → ℕ → ℕ → ℕ → List ℕ → ℕ
+unfoldable pub storesFrom : Setup → Lengths → ℕ → ℕ → ℕ → ℕ → List ℕ → ℕ
 storesFrom S n g body base zero table = 0
 storesFrom S n g body base (suc i) table =
     storesFrom S n g body base i table + oneUnless (storedAt S n g body (visitsFrom S n g body base i table) (base + i))
 
 -- a function whose cells lie within a table of so many
-pub record Ready (functions : List ℕ) (n g len : ℕ) : Type 0 where
+pub record Ready (functions : List ℕ) (n : Lengths) (g len : ℕ) : Type 0 where
   pub below : g < mostFunctions
-  pub samples : n ≤ mostSamples
+  pub samples : Short n
   pub within : firstOf functions g + sizeOf functions n g ≤ len
 
 -- a row of such a function, from configuration `base` on, with the values of its other parameters in env: with the last
 -- parameter's number put in they are those of each configuration of the row
-pub record RowReady (functions : List ℕ) (n g len base : ℕ) (env : List ℕ) : Type 0 where
+pub record RowReady (functions : List ℕ) (n : Lengths) (g len base : ℕ) (env : List ℕ) : Type 0 where
   pub ready : Ready functions n g len
   pub inside : base + rowWidth (kindsOf functions g) n (countOf functions g) ≤ sizeOf functions n g
   pub values : (d : ℕ) → d < rowWidth (kindsOf functions g) n (countOf functions g)
@@ -145,18 +156,18 @@ abbrev pub SameOthers : ℕ → List ℕ → List ℕ → Type 0
 SameOthers slot env env′ = (v : ℕ) → set env′ slot v ≡ set env slot v
 
 -- the test of that
-unfoldable pub fits : List ℕ → ℕ → ℕ → ℕ → Bool
-fits functions n g len = ltb g mostFunctions && (leb n mostSamples && leb (firstOf functions g + sizeOf functions n g) len)
+unfoldable pub fits : List ℕ → Lengths → ℕ → ℕ → Bool
+fits functions n g len = ltb g mostFunctions && (short n && leb (firstOf functions g + sizeOf functions n g) len)
 
 -- the first so many functions; one whose cells do not lie within the table is passed over, and so is each from the
 -- thirty-third on
-unfoldable pub passVisits : Setup → ℕ → List ℕ → ℕ → List ℕ → List ℕ
+unfoldable pub passVisits : Setup → Lengths → List ℕ → ℕ → List ℕ → List ℕ
 passVisits S n starts zero table = table
 passVisits S n starts (suc g) table =
     let before = passVisits S n starts g table in
     cond (fits (S .functions) n g (length table)) (visitsFrom S n g (bodyAt (S .words) (getD starts g 0)) 0 (sizeOf (S .functions) n g) before) before
 
-unfoldable pub passCounts : Setup → ℕ → List ℕ → ℕ → List ℕ → ℕ
+unfoldable pub passCounts : Setup → Lengths → List ℕ → ℕ → List ℕ → ℕ
 passCounts S n starts zero table = 0
 passCounts S n starts (suc g) table =
     passCounts S n starts g table
@@ -168,22 +179,42 @@ passCounts S n starts (suc g) table =
 unfoldable pub cleared : ℕ → List ℕ → List ℕ
 cleared needed table = replicate (min needed (length table)) undecidedCode ++ drop needed table
 
+-- main's cell on the whole traces: the last of function 0
+unfoldable pub mainCellOf : List ℕ → Lengths → ℕ
+mainCellOf functions n = sizeOf functions (shortened n) 0 - 1
+
 -- ---- Setting up
 
--- first cells of so many functions, from function g on, and the cells of all; kinds and counts stand beside them
-unfoldable pub totalBefore : List ℕ → List ℕ → ℕ → ℕ → ℕ
-totalBefore kinds params n zero = 0
-totalBefore kinds params n (suc g) = totalBefore kinds params n g + sizeFrom (getD kinds g 0) n 0 (atMostFour (getD params g 0))
+-- the bytes of both traces, with zeros after each; those beyond the longest trace are passed over
+unfoldable pub tracesOf : List ℕ → List ℕ → List ℕ
+tracesOf ram guard = padded mostTraceBytes 0 (take mostTraceBytes ram) ++ padded mostTraceBytes 0 (take mostTraceBytes guard)
 
--- the array of functions after the first so many of them
-unfoldable pub functionsUpto : List ℕ → List ℕ → ℕ → ℕ → List ℕ
-functionsUpto kinds params n zero = replicate 96 0
-functionsUpto kinds params n (suc g) =
-    set (set (set (functionsUpto kinds params n g) g (totalBefore kinds params n g)) (32 + g) (getD kinds g 0)) (64 + g) (getD params g 0)
+-- what the headers of functions say: kinds bytes, guard bytes and counts of parameters
+pub record Heads : Type 0 where
+  pub kinds : List ℕ
+  pub guards : List ℕ
+  pub params : List ℕ
 
--- the array of so many functions, and their cells; a count above 32 counts as 32, and n above 4,095 as 4,095
-unfoldable pub functionsOf : List ℕ → List ℕ → ℕ → ℕ → List ℕ
-functionsOf kinds params n count = functionsUpto kinds params (min n mostSamples) (min count mostFunctions)
+abbrev pub heads : List ℕ → List ℕ → List ℕ → Heads
+heads kinds guards params = record { kinds = kinds; guards = guards; params = params }
 
-unfoldable pub totalOf : List ℕ → List ℕ → ℕ → ℕ → ℕ
-totalOf kinds params n count = totalBefore kinds params (min n mostSamples) (min count mostFunctions)
+abbrev pub signatureAt : Heads → ℕ → ℕ
+signatureAt H g = signatureOf (getD (H .kinds) g 0) (getD (H .guards) g 0)
+
+-- the cells of the first so many functions
+unfoldable pub totalBefore : Heads → Lengths → ℕ → ℕ
+totalBefore H n zero = 0
+totalBefore H n (suc g) = totalBefore H n g + sizeFrom (signatureAt H g) n 0 (atMostFour (getD (H .params) g 0))
+
+-- the array of functions after the first so many of them: first cells, with signatures and counts beside them
+unfoldable pub functionsUpto : Heads → Lengths → ℕ → List ℕ
+functionsUpto H n zero = replicate 96 0
+functionsUpto H n (suc g) =
+    set (set (set (functionsUpto H n g) g (totalBefore H n g)) (32 + g) (signatureAt H g)) (64 + g) (getD (H .params) g 0)
+
+-- the array of so many functions, and their cells; a count above 32 counts as 32, and lengths above 4,095 as 4,095
+unfoldable pub functionsOf : Heads → Lengths → ℕ → List ℕ
+functionsOf H n count = functionsUpto H (shortened n) (min count mostFunctions)
+
+unfoldable pub totalOf : Heads → Lengths → ℕ → ℕ
+totalOf H n count = totalBefore H (shortened n) (min count mostFunctions)

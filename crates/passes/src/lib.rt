@@ -3,6 +3,7 @@
 mod configurations;
 pub mod setup;
 
+use codes::Lengths;
 use decoding::functions;
 use decoding::functions::FUNCTIONS;
 use decoding::functions::STRIDE;
@@ -13,21 +14,21 @@ ghost use lib.ListN.{length, set};
 ghost use Rattle.syntax.specs.Limits.{mostDepth};
 ghost use Rattle.evaluator.specs.{digitBound, evalWord};
 ghost use Rattle.passes.specs.Mirror.{setup, kindsOf, countOf, sizeOf, rowWidth, Ready, RowReady, SameOthers, fits, bodyAt, putIn, oneUnless};
-ghost use Rattle.passes.specs.Mirror.{visitsFrom, storesFrom, passVisits, passCounts, mostConfigurations, cleared};
+ghost use Rattle.passes.specs.Mirror.{visitsFrom, storesFrom, passVisits, passCounts, mostConfigurations, cleared, mainCellOf};
 
 // One pass over the cells of so many functions: how many outcomes it stored. A function whose cells do not
 // lie within the table is passed over, and so is each from the thirty-third on.
 pub fn pass(
     words: &[u64; WORDS],
-    trace: &[u8; codes::TRACE_BYTES],
+    traces: &[u8; codes::TRACES_BYTES],
     functions: &[u64; 96],
     table: &mut [u16],
-    n: u16,
+    n: Lengths,
     starts: &[u16; 32],
     count: u8,
 ) -> usize
-    ensures cells { λ _. ⌜ now (table .exit) ≡ passVisits (setup (now (words .entry)) (now (functions .entry)) (now (trace .entry))) n (now (starts .entry)) count (now (table .entry)) ⌝ }
-    ensures stored { λ r. ⌜ r ≡ passCounts (setup (now (words .entry)) (now (functions .entry)) (now (trace .entry))) n (now (starts .entry)) count (now (table .entry)) ⌝ }
+    ensures cells { λ _. ⌜ now (table .exit) ≡ passVisits (setup (now (words .entry)) (now (functions .entry)) (now (traces .entry))) n (now (starts .entry)) count (now (table .entry)) ⌝ }
+    ensures stored { λ r. ⌜ r ≡ passCounts (setup (now (words .entry)) (now (functions .entry)) (now (traces .entry))) n (now (starts .entry)) count (now (table .entry)) ⌝ }
 {
     let len = table.len();
     let last = count as usize;
@@ -36,7 +37,7 @@ pub fn pass(
     while g < last {
         if lies_within(functions, n, g, len) {
             let body = body_of(words, starts[g]);
-            stored += pass_function(words, trace, functions, table, n, g, body);
+            stored += pass_function(words, traces, functions, table, n, g, body);
         }
         g += 1;
     }
@@ -44,13 +45,13 @@ pub fn pass(
 }
 
 // Whether the cells of a function lie within a table of so many.
-fn lies_within(functions: &[u64; 96], n: u16, g: usize, len: usize) -> bool
+fn lies_within(functions: &[u64; 96], n: Lengths, g: usize, len: usize) -> bool
     ensures { λ r. ⌜ r ≡ fits (now (functions .entry)) n g len ⌝ }
 {
     if (syntax::MOST_FUNCTIONS as usize) <= g {
         return false;
     }
-    if trace::MOST_SAMPLES < n as usize {
+    if !configurations::short_lengths(n) {
         return false;
     }
     let first = functions[g];
@@ -72,29 +73,29 @@ fn body_of(words: &[u64; WORDS], start: u16) -> u64
 // Visits the configurations of a function in rising order, row by row: how many outcomes were stored.
 fn pass_function(
     words: &[u64; WORDS],
-    trace: &[u8; codes::TRACE_BYTES],
+    traces: &[u8; codes::TRACES_BYTES],
     functions: &[u64; 96],
     table: &mut [u16],
-    n: u16,
+    n: Lengths,
     g: usize,
     body: u64,
 ) -> usize
     requires { ⌜ Ready (now functions) n g (length (now table)) ⌝ }
-    ensures cells { λ _. ⌜ now (table .exit) ≡ visitsFrom (setup (now (words .entry)) (now (functions .entry)) (now (trace .entry))) n g body 0 (sizeOf (now (functions .entry)) n g) (now (table .entry)) ⌝ }
-    ensures stored { λ r. ⌜ (r ≡ storesFrom (setup (now (words .entry)) (now (functions .entry)) (now (trace .entry))) n g body 0 (sizeOf (now (functions .entry)) n g) (now (table .entry))) × (r ≤ mostConfigurations) ⌝ }
+    ensures cells { λ _. ⌜ now (table .exit) ≡ visitsFrom (setup (now (words .entry)) (now (functions .entry)) (now (traces .entry))) n g body 0 (sizeOf (now (functions .entry)) n g) (now (table .entry)) ⌝ }
+    ensures stored { λ r. ⌜ (r ≡ storesFrom (setup (now (words .entry)) (now (functions .entry)) (now (traces .entry))) n g body 0 (sizeOf (now (functions .entry)) n g) (now (table .entry))) × (r ≤ mostConfigurations) ⌝ }
 {
     let kinds = functions[32 + g];
     let count = configurations::count(functions, g);
     let others = configurations::last(count);
     let rows = configurations::size(kinds, others, n);
     let width = configurations::row_width(kinds, count, n) as usize;
-    let mut env = [0, 0, 0, 0, n];
+    let mut env = [0, 0, 0, 0, n.ram, n.guard];
     configurations::values(kinds, others, n, 0, &mut env);
     let mut stored: usize = 0;
     let mut base: usize = 0;
     let mut r: u64 = 0;
     while r < rows {
-        stored += row(words, trace, functions, table, &mut env, n, g, body, base);
+        stored += row(words, traces, functions, table, &mut env, n, g, body, base);
         configurations::step(kinds, others, n, &mut env);
         base += width;
         r += 1;
@@ -106,19 +107,19 @@ fn pass_function(
 // other parameters; that of the last is put in at undecided cells. A decided cell costs a load and two tests.
 fn row(
     words: &[u64; WORDS],
-    trace: &[u8; codes::TRACE_BYTES],
+    traces: &[u8; codes::TRACES_BYTES],
     functions: &[u64; 96],
     table: &mut [u16],
-    env: &mut [u16; 5],
-    n: u16,
+    env: &mut [u16; 6],
+    n: Lengths,
     g: usize,
     body: u64,
     base: usize,
 ) -> usize
     requires { ⌜ RowReady (now functions) n g (length (now table)) base (now env) ⌝ }
-    ensures cells { λ _. ⌜ now (table .exit) ≡ visitsFrom (setup (now (words .entry)) (now (functions .entry)) (now (trace .entry))) n g body base (rowWidth (kindsOf (now (functions .entry)) g) n (countOf (now (functions .entry)) g)) (now (table .entry)) ⌝ }
+    ensures cells { λ _. ⌜ now (table .exit) ≡ visitsFrom (setup (now (words .entry)) (now (functions .entry)) (now (traces .entry))) n g body base (rowWidth (kindsOf (now (functions .entry)) g) n (countOf (now (functions .entry)) g)) (now (table .entry)) ⌝ }
     ensures env { λ _. ⌜ SameOthers (countOf (now (functions .entry)) g - 1) (now (env .entry)) (now (env .exit)) ⌝ }
-    ensures stored { λ r. ⌜ r ≡ storesFrom (setup (now (words .entry)) (now (functions .entry)) (now (trace .entry))) n g body base (rowWidth (kindsOf (now (functions .entry)) g) n (countOf (now (functions .entry)) g)) (now (table .entry)) ⌝ }
+    ensures stored { λ r. ⌜ r ≡ storesFrom (setup (now (words .entry)) (now (functions .entry)) (now (traces .entry))) n g body base (rowWidth (kindsOf (now (functions .entry)) g) n (countOf (now (functions .entry)) g)) (now (table .entry)) ⌝ }
 {
     let kinds = functions[32 + g];
     let count = configurations::count(functions, g);
@@ -134,7 +135,7 @@ fn row(
         if functions::held(function, table[cell]) == codes::UNDECIDED {
             stored = fill(
                 words,
-                trace,
+                traces,
                 table,
                 env,
                 body,
@@ -153,26 +154,26 @@ fn row(
 // stored, if so many were.
 fn fill(
     words: &[u64; WORDS],
-    trace: &[u8; codes::TRACE_BYTES],
+    traces: &[u8; codes::TRACES_BYTES],
     table: &mut [u16],
-    env: &mut [u16; 5],
+    env: &mut [u16; 6],
     body: u64,
     slot: usize,
     value: u16,
     cell: usize,
     stored: usize,
 ) -> usize
-    requires { ⌜ (slot < 5) × (cell < length (now table)) × (stored < digitBound) ⌝ }
-    ensures cells { λ _. ⌜ now (table .exit) ≡ putIn (now (table .entry)) cell (evalWord (now (words .entry)) (now (trace .entry)) (now (table .entry)) (set (now (env .entry)) slot value) mostDepth body) ⌝ }
+    requires { ⌜ (slot < 6) × (cell < length (now table)) × (stored < digitBound) ⌝ }
+    ensures cells { λ _. ⌜ now (table .exit) ≡ putIn (now (table .entry)) cell (evalWord (now (words .entry)) (now (traces .entry)) (now (table .entry)) (set (now (env .entry)) slot value) mostDepth body) ⌝ }
     ensures env { λ _. ⌜ now (env .exit) ≡ set (now (env .entry)) slot value ⌝ }
-    ensures stored { λ r. ⌜ r ≡ stored + oneUnless (evalWord (now (words .entry)) (now (trace .entry)) (now (table .entry)) (set (now (env .entry)) slot value) mostDepth body) ⌝ }
+    ensures stored { λ r. ⌜ r ≡ stored + oneUnless (evalWord (now (words .entry)) (now (traces .entry)) (now (table .entry)) (set (now (env .entry)) slot value) mostDepth body) ⌝ }
 {
     env[slot] = value;
-    let outcome = bodies::outcome(words, trace, table, env, body);
+    let outcome = bodies::outcome(words, traces, table, env, body);
     if outcome == codes::UNDECIDED {
         return stored;
     }
-    table[cell] = outcome;
+    table[cell] = codes::cell(outcome);
     stored + 1
 }
 
@@ -186,4 +187,12 @@ pub fn clear(table: &mut [u16], needed: usize)
         table[i] = codes::UNDECIDED;
         i += 1;
     }
+}
+
+// Main's cell on the whole traces: the last of function 0. Lengths above 4,095 count as 4,095.
+pub fn main_cell(functions: &[u64; 96], n: Lengths) -> usize
+    ensures { λ r. ⌜ r ≡ mainCellOf (now (functions .entry)) n ⌝ }
+{
+    let count = configurations::count(functions, 0);
+    (configurations::size(functions[32], count, configurations::shortened_lengths(n)) - 1) as usize
 }

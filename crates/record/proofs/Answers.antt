@@ -1,12 +1,13 @@
 -- What reading and checking answer, one law for each way through the code:
 --   evaluation-refused, evaluation-passed     the check behind an answer of evaluating
+--   sort-held                                the sort of a record's program
 --   located-refused, program-refused,
 --   program-passed                           reading
 --   read-owed                                its answer, and that in numbers
 --   record-read                              bytes that are read have passed the checks, and the parts are theirs; in any release
 --   parts-within                             the parts lie within the bytes
 use mathlib.Core.Path.{_≡_, refl, sym, ap, _∙_}
-use mathlib.Core.Bool.{true}
+use mathlib.Core.Bool.{Bool, true, false, cond}
 use mathlib.Core.List.{List}
 use Prim.Native.Nat.{ℕ}
 use Rattle.refusal.specs.declared.Refusal.{Refusal}
@@ -15,6 +16,9 @@ use Rattle.refusal.specs.declared.Check.the-variants.{Passed, Refused}
 use Rattle.refusal.specs.{answerIf}
 use Rattle.refusal.proofs.Checks.{then-passed}
 use Rattle.semantics.specs.declared.Verdict.{Verdict}
+use Rattle.semantics.specs.declared.Sort.the-variants.{One, Two}
+use Rattle.semantics.specs.Handed.{Handed}
+use Rattle.rule.specs.declared.Sorts.the-variants.{Only}
 use Rattle.rule.specs.Reading.{programCheck}
 use Rattle.evaluate.specs.declared.Evaluated.{Evaluated}
 use Rattle.evaluate.specs.declared.Evaluated.the-variants as evaluated
@@ -23,14 +27,17 @@ use Rattle.evaluate.specs.Evaluate.{answerBy, evaluation}
 use Rattle.layout.specs.declared.Parts.{Parts}
 use Rattle.layout.specs.declared.Reading.{Reading}
 use Rattle.layout.specs.declared.Reading.the-variants as read
+use Rattle.layout.specs.declared.Span.{Span}
+use Rattle.layout.specs.declared.GuardTrace.the-variants as guard
 use Rattle.layout.specs.declared.Format.{Format}
-use Rattle.layout.specs.Form.{formats, knows}
-use Rattle.layout.specs.Trailer.{partOf, formatIn, formatHeld, trailerCheckWith, partsWith, partsIn, readBy, located}
+use Rattle.layout.specs.Form.{formats, knows, formatSort}
+use Rattle.layout.specs.Trailer.{partOf, guardSpan, guardSamplesIn, guardPlace, formatIn, formatHeld, trailerCheckWith, partsFor, partsWith, partsIn, readBy, located}
 use Rattle.layout.proofs.Answers.{read-passed, located-refusal, located-passed, parts-are}
 use Rattle.layout.proofs.Fields.{Fields, passed-fields}
 use Rattle.layout.proofs.Places.{Within, within}
 use Rattle.record.specs.Reading.{readCheckWith, readCheck, readingWith, reading, readAnswer, partsValues}
 use Rattle.record.specs.Recording.{workedOut}
+use Rattle.record.specs.Steps.{sortHeld}
 
 -- ---- Answers of evaluating
 
@@ -46,19 +53,28 @@ verdict-check : (c : Check) (v : Verdict) → verdictCheck (answerBy c v) ≡ c
 verdict-check Passed v = refl
 verdict-check (Refused f) v = refl
 
-module _ (program trace : List ℕ) (n lent : ℕ) {r : Evaluated} (e : r ≡ evaluation program trace n lent) where
-  pub evaluation-refused : {f : Refusal} → r ≡ evaluated.Refused f → evaluateCheck program trace n lent ≡ Refused f
+module _ (program : List ℕ) (h : Handed) (lent : ℕ) {r : Evaluated} (e : r ≡ evaluation program h lent) where
+  pub evaluation-refused : {f : Refusal} → r ≡ evaluated.Refused f → evaluateCheck program h lent ≡ Refused f
   unfolding evaluation
-  evaluation-refused q = sym (verdict-check _ (workedOut program trace n)) ∙ ap verdictCheck (sym e ∙ q)
+  evaluation-refused q = sym (verdict-check _ (workedOut program h)) ∙ ap verdictCheck (sym e ∙ q)
 
-  pub evaluation-passed : {w : Verdict} → r ≡ evaluated.Verdict w → (evaluateCheck program trace n lent ≡ Passed) × (workedOut program trace n ≡ w)
+  pub evaluation-passed : {w : Verdict} → r ≡ evaluated.Verdict w → (evaluateCheck program h lent ≡ Passed) × (workedOut program h ≡ w)
   unfolding evaluation
   evaluation-passed {w} q =
-      let passed : evaluateCheck program trace n lent ≡ Passed = sym (verdict-check _ (workedOut program trace n)) ∙ ap verdictCheck (sym e ∙ q) in
-      let told : answerBy Passed (workedOut program trace n) ≡ evaluated.Verdict w = rw passed at (sym e ∙ q) in
+      let passed : evaluateCheck program h lent ≡ Passed = sym (verdict-check _ (workedOut program h)) ∙ ap verdictCheck (sym e ∙ q) in
+      let told : answerBy Passed (workedOut program h) ≡ evaluated.Verdict w = rw passed at (sym e ∙ q) in
       (passed, ap (verdictOr w) told)
 
 -- ---- Reading
+
+-- a record's guard trace says the sort of its program, as its format does
+pub sort-held : (F : Format) (bytes : List ℕ) → sortHeld (partsFor F bytes .guard) ≡ formatSort F
+unfolding partsFor guardPlace
+sort-held F bytes = go (F .guarded) (guardSpan F bytes) (guardSamplesIn F bytes)
+  where
+    go : (b : Bool) (s : Span) (m : ℕ) → sortHeld (cond b (guard.At s m) guard.Absent) ≡ cond b Two One
+    go true s m = refl
+    go false s m = refl
 
 module _ (bytes : List ℕ) {r : Reading} (l : r ≡ located bytes) where
   pub located-refused : {f : Refusal} → r ≡ read.Refused f → read.Refused f ≡ reading bytes
@@ -66,13 +82,19 @@ module _ (bytes : List ℕ) {r : Reading} (l : r ≡ located bytes) where
   located-refused e = rw (located-refusal bytes l e)
 
   module _ {p : Parts} (e : r ≡ read.Record p) where
-    pub program-refused : {f : Refusal} → programCheck (partOf bytes (p .program)) ≡ Refused f → read.Refused f ≡ reading bytes
-    unfolding readingWith readCheckWith
-    program-refused c = rw (located-passed bytes l e, parts-are bytes l e, c)
+    -- the program's check is left
+    check-left : readCheck bytes ≡ programCheck (Only (sortHeld (p .guard))) (partOf bytes (p .program))
+    unfolding readCheckWith
+    check-left = rw (located-passed bytes l e, ← sort-held (formatHeld formats bytes) bytes, parts-are bytes l e)
 
-    pub program-passed : programCheck (partOf bytes (p .program)) ≡ Passed → read.Record p ≡ reading bytes
-    unfolding readingWith readCheckWith
-    program-passed c = rw (located-passed bytes l e, parts-are bytes l e, c)
+    pub program-refused : {f : Refusal} → programCheck (Only (sortHeld (p .guard))) (partOf bytes (p .program)) ≡ Refused f
+        → read.Refused f ≡ reading bytes
+    unfolding readingWith
+    program-refused c = rw (check-left ∙ c)
+
+    pub program-passed : programCheck (Only (sortHeld (p .guard))) (partOf bytes (p .program)) ≡ Passed → read.Record p ≡ reading bytes
+    unfolding readingWith
+    program-passed c = rw (check-left ∙ c, parts-are bytes l e)
 
 -- all that is promised of an answer: which it is, and its numbers
 pub read-owed : (bytes : List ℕ) {r : Reading} → r ≡ reading bytes
@@ -90,14 +112,14 @@ read-owed bytes e = (e, ap readAnswer e ∙ go (readCheck bytes))
 pub record Read (known : List Format) (bytes : List ℕ) (p : Parts) : Type 0 where
   pub listed : knows known (formatIn bytes) ≡ true
   pub fields : Fields (formatHeld known bytes) bytes
-  pub program : programCheck (partOf bytes (partsWith known bytes .program)) ≡ Passed
+  pub program : programCheck (Only (formatSort (formatHeld known bytes))) (partOf bytes (partsWith known bytes .program)) ≡ Passed
   pub parts : partsWith known bytes ≡ p
 
 pub record-read : (known : List Format) (bytes : List ℕ) (p : Parts) → readingWith known bytes ≡ read.Record p → Read known bytes p
 unfolding readingWith readCheckWith
 record-read known bytes p e =
     let r = read-passed (readCheckWith known bytes) (partsWith known bytes) p e in
-    let c = then-passed (trailerCheckWith known bytes) (programCheck (partOf bytes (partsWith known bytes .program))) (r .0) in
+    let c = then-passed (trailerCheckWith known bytes) _ (r .0) in
     let f = passed-fields known bytes (c .0) in
     record { listed = f .0; fields = f .1; program = c .1; parts = r .1 }
 

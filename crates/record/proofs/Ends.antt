@@ -1,11 +1,12 @@
 -- Bytes that are read as a record end in the layout of what they hold:
 --   ends-in                it is stated, of the format told, and the bytes are those before the record and its layout
---   record-least           so it has at least 19 bytes
+--   record-least           so it has at least 19 bytes, with a guard trace at least 21
 --   accepts-exactly        reading accepts exactly the bytes that end in a record, in each format
 --   own-layout             a record's own bytes are the layout of what it holds
 --   same-exactly           so two records that are read hold the same exactly when their own bytes are the same
-use mathlib.Core.Path.{_≡_, sym, ap, _∙_}
+use mathlib.Core.Path.{_≡_, refl, sym, ap, _∙_}
 use mathlib.Core.List.{List}
+use mathlib.Core.Option.{Option, none, some}
 use Prim.Native.Nat.{ℕ, _+_, _≤_}
 use native.Mathlib.Omega.{arith}
 use lib.ListN.{length, take, length-append}
@@ -14,9 +15,11 @@ use Rattle.rule.specs.Form.{AreBytes}
 use Rattle.layout.specs.declared.Parts.{Parts}
 use Rattle.layout.specs.declared.Reading.the-variants as read
 use Rattle.layout.specs.declared.Format.{Format}
-use Rattle.layout.specs.Trailer.{formatIn, formatHeld, partsFor, partsIn, contentsAt}
-use Rattle.layout.specs.Form.{formats, formatOf, layout}
-use Rattle.layout.proofs.FormatLaws.{ByLabel, numbered-by-label}
+use Rattle.layout.specs.declared.GuardTrace.{GuardTrace}
+use Rattle.layout.specs.declared.GuardTrace.the-variants as guard
+use Rattle.layout.specs.Trailer.{formatIn, formatHeld, partsFor, partsIn, guardAt, contentsAt}
+use Rattle.layout.specs.Form.{formats, formatFor, formatOf, trailerBytes, layout}
+use Rattle.layout.proofs.FormatLaws.{ByParts, numbered-by-parts}
 use Rattle.layout.proofs.Fields.{Fields}
 use Rattle.layout.proofs.Filling.{length-layout}
 use Rattle.layout.proofs.Ends.{contents-stated, format-back, from-program, ends-whole}
@@ -28,7 +31,7 @@ use Rattle.record.proofs.Answers.{record-read, parts-within}
 use Rattle.record.proofs.Inverse.{read-back}
 
 -- the number told is that of the format of what the bytes hold
-format-told : (bytes : List ℕ) → AreBytes bytes → (F : Format) → ByLabel F → Fields F bytes
+format-told : (bytes : List ℕ) → AreBytes bytes → (F : Format) → ByParts F → Fields F bytes
     → partsFor F bytes .format ≡ formatOf (contentsAt bytes (partsFor F bytes)) .number
 unfolding partsFor
 format-told bytes are F by f = ap (λ (G : Format). G .number) (sym (format-back F bytes are f by))
@@ -37,16 +40,28 @@ pub ends-in : (bytes : List ℕ) (p : Parts) → AreBytes bytes → reading byte
 ends-in bytes p are e =
     let r = record-read formats bytes p e in
     let F = formatHeld formats bytes in
-    let by = numbered-by-label (formatIn bytes) (r .listed) in
+    let by = numbered-by-parts (formatIn bytes) (r .listed) in
     let found : EndsIn bytes (partsIn bytes) =
     record {
-      stated = contents-stated F bytes are (r .fields) (r .program);
+      stated = contents-stated F bytes are (r .fields) by (r .program);
       format = format-told bytes are F by (r .fields);
       whole = ends-whole F bytes are (r .fields) by;
     } in
     rw (r .parts) at found
 
-pub record-least : (bytes : List ℕ) (p : Parts) → AreBytes bytes → reading bytes ≡ read.Record p → p .program .start + 19 ≤ length bytes
+-- six of program, five of verdict and pass count, and the trailer
+abbrev pub leastBytes : GuardTrace → ℕ
+leastBytes guard.Absent = 19
+leastBytes (guard.At s m) = 21
+
+least : (bytes : List ℕ) (g : GuardTrace) (label : Option (List ℕ)) → leastBytes g ≡ 11 + trailerBytes (formatFor (guardAt bytes g) label)
+unfolding trailerBytes
+least bytes guard.Absent (some label) = refl
+least bytes guard.Absent none = refl
+least bytes (guard.At s m) label = refl
+
+pub record-least : (bytes : List ℕ) (p : Parts) → AreBytes bytes → reading bytes ≡ read.Record p
+    → p .program .start + leastBytes (p .guard) ≤ length bytes
 record-least bytes p are e =
     let w = ends-in bytes p are e in
     let c = contentsAt bytes p in
@@ -58,7 +73,8 @@ record-least bytes p are e =
       length-append (take start bytes) (layout c),
       length-take-le start bytes (omega (arith, within .some)),
       length-layout c,
-      program-bytes (c .program) (w .stated .program .0) (w .stated .program .1),
+      least bytes (p .guard) (c .label),
+      program-bytes (c .program) _ (w .stated .program .0) (w .stated .program .1),
     )
 
 pub accepts-exactly : (bytes : List ℕ) → AreBytes bytes → AcceptsExactly bytes
@@ -75,7 +91,7 @@ accepts-exactly bytes are k = (ended, found)
 pub own-layout : (bytes : List ℕ) (p : Parts) → AreBytes bytes → reading bytes ≡ read.Record p → ownBytes bytes p ≡ layout (contentsAt bytes p)
 own-layout bytes p are e =
     let r = record-read formats bytes p e in
-    rw (r .parts) at (from-program (formatHeld formats bytes) bytes are (r .fields) (numbered-by-label (formatIn bytes) (r .listed)))
+    rw (r .parts) at (from-program (formatHeld formats bytes) bytes are (r .fields) (numbered-by-parts (formatIn bytes) (r .listed)))
 
 pub same-exactly : (bytes bytes′ : List ℕ) → AreBytes bytes → AreBytes bytes′ → SameExactly bytes bytes′
 same-exactly bytes bytes′ are are′ p p′ e e′ =

@@ -18,7 +18,7 @@ use Rattle.semantics.specs.Demand.{Decides}
 use Rattle.rule.specs.Form.{Accepted}
 use Rattle.rule.specs.Reading.{programOf}
 use Rattle.prepare.specs.Checks.{tableCheck}
-use Rattle.layout.specs.Form.{Contents}
+use Rattle.layout.specs.Form.{Contents, formatSort, formatOf, tracesHeld}
 use Rattle.layout.specs.Trailer.{trailerCheck, contentsIn}
 use Rattle.record.specs.declared.Checked.{Checked}
 use Rattle.record.specs.declared.Checked.the-variants as checked
@@ -33,7 +33,7 @@ programHeld c = programOf (c .program)
 unfoldable pub recordCheck : List ℕ → ℕ → Check
 recordCheck bytes lent =
     let c = contentsIn bytes in
-    readCheck bytes then tableCheck (cells (c .samples) (programHeld c)) lent
+    readCheck bytes then tableCheck (cells (tracesHeld c) (programHeld c)) lent
 
 -- 'over verdict and pass count together'
 abbrev pub agrees : ℕ → ℕ → Verdict → Bool
@@ -51,13 +51,13 @@ checkedBy (check.Refused f) c v = checked.Refused f
 unfoldable pub checking : List ℕ → ℕ → Checked
 checking bytes lent =
     let c = contentsIn bytes in
-    checkedBy (recordCheck bytes lent) c (verdictOf (programHeld c) (c .samples))
+    checkedBy (recordCheck bytes lent) c (verdictOf (programHeld c) (tracesHeld c))
 
 -- the table: the cells worked out; beyond them it keeps its content
 unfoldable pub tableChecked : List ℕ → List ℕ → List ℕ
 tableChecked bytes table =
     let c = contentsIn bytes in
-    changedIf (recordCheck bytes (length table)) (decidedTable (programHeld c) (c .samples) table) table
+    changedIf (recordCheck bytes (length table)) (decidedTable (programHeld c) (tracesHeld c) table) table
 
 -- the answer in numbers: 1 for 'agrees' and 0 for 'differs', the number of the verdict worked out and its pass count
 abbrev pub checkedAnswer : Checked → Answer
@@ -69,16 +69,16 @@ checkedAnswer (checked.Refused f) = refusedAs f
 abbrev pub checkNumbers : List ℕ → ℕ → Answer
 checkNumbers bytes lent =
     let c = contentsIn bytes in
-    let v = verdictOf (programHeld c) (c .samples) in
+    let v = verdictOf (programHeld c) (tracesHeld c) in
     answerIf (recordCheck bytes lent) (digit (agrees (c .verdict) (c .passes) v) ∷ verdictValues v)
 
 -- Demand 3, of the verdict that checking works out: for bytes that end in a record whose trailer is not refused, the program
 -- that it holds an accepted encoding of, and a table that 21 leaves
 abbrev pub CheckDemand3 : List ℕ → ℕ → (Verdict → Type 0) → List ℕ → Type 0
 CheckDemand3 bytes lent Told table =
-    (P : Program) → trailerCheck bytes ≡ check.Passed → Accepted (contentsIn bytes .program) P
-    → tableCheck (cells (contentsIn bytes .samples) P) lent ≡ check.Passed
-    → (v : Verdict) × Told v × Decides P (contentsIn bytes .samples) v table
+    (P : Program) → trailerCheck bytes ≡ check.Passed → Accepted (contentsIn bytes .program) (formatSort (formatOf (contentsIn bytes))) P
+    → tableCheck (cells (tracesHeld (contentsIn bytes)) P) lent ≡ check.Passed
+    → (v : Verdict) × Told v × Decides P (tracesHeld (contentsIn bytes)) v table
 
 -- what is told of a verdict: whether the record has it, over verdict and pass count together
 abbrev pub comparedIn : List ℕ → Verdict → Checked

@@ -3,7 +3,7 @@
 --   Recording   what recording answers, writes, and leaves in the table
 --   Checking    what checking answers, and leaves in the table
 --   Inverse     what reading and writing owe each other
---   Releases    what reading owes the records of 'the old release'
+--   Releases    what reading owes the records of older releases
 -- Steps, which follows the code, is no part of what a reader must believe.
 pub mod Reading
 pub mod Recording

@@ -3,7 +3,6 @@
 --   part-short                               how long a body can be
 --   Going                                    a check that has gone past some bodies
 use mathlib.Core.Path.{_≡_, sym, ap}
-use mathlib.Core.Bool.{Bool}
 use mathlib.Core.List.{List}
 use Prim.Native.Nat.{ℕ, suc, _+_, _-_, _<_, _≤_}
 use native.Mathlib.Omega.{arith}
@@ -15,11 +14,10 @@ use Rattle.refusal.specs.declared.Refusal.the-variants.{BytesAfterExpression}
 use Rattle.refusal.specs.declared.Check.{Check}
 use Rattle.refusal.specs.declared.Check.the-variants as check
 use Rattle.refusal.specs.{checkOf, _then_}
-use Rattle.trace.specs.{bitOf}
 use Rattle.syntax.specs.Limits.{mostDepth}
-use Rattle.rule.specs.Walk.{Frame, firstStop, checkAt, bodyEnd, bodyAt, bodiesAt}
+use Rattle.rule.specs.Walk.{kindOf, Frame, firstStop, checkAt, bodyEnd, bodyAt, bodiesAt}
 
-module _ (F : Frame) {list : Bool} (k : list ≡ bitOf 4 (F .ownKinds)) {w : ℕ} (e : w ≡ checkAt F mostDepth list 0) where
+module _ (F : Frame) {result : ℕ} (k : result ≡ kindOf (F .ownKinds) (F .ownGuard) 4) {w : ℕ} (e : w ≡ checkAt F mostDepth result 0) where
   pub body-passed : w < firstStop → w ≡ length (F .body) → check.Passed ≡ bodyAt F
   unfolding bodyAt bodyEnd
   body-passed h q = rw (← k, ← e, lt-ltb _ _ h, eq-eqb _ _ q)

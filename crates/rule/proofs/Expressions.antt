@@ -1,25 +1,31 @@
 -- Reading expressions and writing them:
 --   header-of, function-of       each function has its header, and each header its function
 --   place-below                  an element that is there stands below the length
---   expr-read, args-read         the bytes of an expression are read as that expression
---   expr-written, args-written   what is read is an expression whose bytes they are, within the depth and well-kinded
-use mathlib.Core.Path.{_≡_, refl, sym, ap, _∙_}
+--   expr-read, args-read         the bytes of an expression of a sort are read as that expression
+--   expr-written, args-written   what is read is an expression whose bytes they are, within the depth, well-kinded and of the sort
+use mathlib.Core.Path.{_≡_, refl, ap, _∙_}
 use mathlib.Core.Bool.{Bool, true, false}
 use mathlib.Core.List.{List, [], _∷_, _++_, append-assoc}
 use mathlib.Core.Option.{Option, none, some}
 use Prim.Native.Nat.{ℕ, zero, suc, _+_, _<_, _≤_}
 use native.Mathlib.Omega.{arith}
+use lib.Dec.{T}
 use lib.ListN.{length, getElem?}
-use Rattle.semantics.specs.Language.{Kind, truth, list, Op, hd, tl, null, Expr, constant, empty, param, op, ifte, call, Args, noArgs, arg, Function, Program, opKind, Meets, MeetAll}
+use Rattle.semantics.specs.declared.Contact.{Contact}
+use Rattle.semantics.specs.declared.Contact.the-variants.{Ram, Guard}
+use Rattle.semantics.specs.declared.Sort.{Sort}
+use Rattle.semantics.specs.declared.Sort.the-variants.{One, Two}
+use Rattle.semantics.specs.Language.{Kind, truth, list, Op, hd, tl, null, Expr, constant, empty, param, op, ifte, call, Args, noArgs, arg, Function, Program}
+use Rattle.semantics.specs.Language.{Demand, only, allows, opAllowed, operandDemand, Meets, MeetAll}
 use Rattle.syntax.specs.declared.Node.{Node}
 use Rattle.syntax.specs.declared.Node.the-variants as node
 use Rattle.syntax.specs.declared.Header.{Header}
 use Rattle.syntax.specs.Limits.{mostFunctions, mostParams}
-use Rattle.rule.specs.Form.{opByte, encodeExpr, encodeArgs, depth, depthAll}
+use Rattle.rule.specs.Form.{opByte, encodeExpr, encodeArgs, depth, depthAll, hasContact, ExprOfSort, ArgsOfSort}
 use Rattle.syntax.specs.Bytes.{nodeOf}
-use Rattle.rule.specs.Reading.{Parsed, got, onward, paramKinds, resultKind, demanded, argsFrom, paramFrom, callFrom, opFrom, ifFrom, nodeFrom, exprFrom}
-use Rattle.rule.proofs.NodeBytes.{ByteOf, node-false, node-true, node-empty, node-if, node-op, node-param, node-call, node-inv}
-use Rattle.rule.proofs.Parsing.{not-got, got-inv, demanded-inv, demanded-met, Onward, by, onward-inv}
+use Rattle.rule.specs.Reading.{got, onward, paramKinds, resultKind, demanded, Reader, argsFrom, guardEmptyFrom, paramFrom, callFrom, opFrom, ifFrom, nodeFrom, exprFrom}
+use Rattle.rule.proofs.NodeBytes.{ByteOf, node-false, node-true, node-empty, node-empty-guard, node-if, node-op, node-param, node-call, node-inv}
+use Rattle.rule.proofs.Parsing.{not-got, got-inv, allowed-inv, allowed-met, Onward, by, onward-inv}
 
 -- ---- The headers of a program's functions
 
@@ -56,241 +62,278 @@ place-below (x ∷ l) (suc i) a e = omega (arith, place-below l i a e)
 -- ---- Written, then read
 
 -- what each node is read as
-module _ (H : List Header) (Γ : List Kind) (d : ℕ) (κ : Kind) where
-  constant-read : (b : Bool) (rest : List ℕ) → κ ≡ truth → exprFrom H Γ (suc d) κ (encodeExpr (constant b) ++ rest) ≡ got (constant b) rest
+module _ (s : Sort) (H : List Header) (Γ : List Kind) (d : ℕ) (δ : Demand) where
+  constant-read : (b : Bool) (rest : List ℕ) → T (allows δ truth) → exprFrom s H Γ (suc d) δ (encodeExpr (constant b) ++ rest) ≡ got (constant b) rest
   unfolding exprFrom encodeExpr
-  constant-read false rest m = rw node-false (demanded-met κ truth _ m)
-  constant-read true rest m = rw node-true (demanded-met κ truth _ m)
+  constant-read false rest m = rw node-false (allowed-met (allows δ truth) _ _ m)
+  constant-read true rest m = rw node-true (allowed-met (allows δ truth) _ _ m)
 
-  empty-read : (rest : List ℕ) → κ ≡ list → exprFrom H Γ (suc d) κ (encodeExpr empty ++ rest) ≡ got empty rest
+  param-read : (i : ℕ) (κ : Kind) (rest : List ℕ) → i < mostParams → getElem? Γ i ≡ some κ → T (allows δ κ)
+      → exprFrom s H Γ (suc d) δ (encodeExpr (param i) ++ rest) ≡ got (param i) rest
   unfolding exprFrom encodeExpr
-  empty-read rest m = rw node-empty (demanded-met κ list _ m)
+  param-read i κ rest h e m = rw (node-param h, e) (allowed-met (allows δ κ) _ _ m)
 
-  param-read : (i : ℕ) (rest : List ℕ) → i < mostParams → getElem? Γ i ≡ some κ
-      → exprFrom H Γ (suc d) κ (encodeExpr (param i) ++ rest) ≡ got (param i) rest
-  unfolding exprFrom encodeExpr
-  param-read i rest h m = rw (node-param h, m) (demanded-met κ κ _ refl)
-
-  op-read : (p : Op) (bs : List ℕ) (e : Expr) (rest : List ℕ) → κ ≡ opKind p → exprFrom H Γ d list bs ≡ got e rest
-      → exprFrom H Γ (suc d) κ (opByte p ∷ bs) ≡ got (op p e) rest
+  op-read : (p : Op) (bs : List ℕ) (e : Expr) (rest : List ℕ) → T (opAllowed p δ) → exprFrom s H Γ d (operandDemand p δ) bs ≡ got e rest
+      → exprFrom s H Γ (suc d) δ (opByte p ∷ bs) ≡ got (op p e) rest
   unfolding exprFrom
-  op-read hd bs e rest m q = rw (node-op hd) (demanded-met κ truth _ m ∙ rw q)
-  op-read tl bs e rest m q = rw (node-op tl) (demanded-met κ list _ m ∙ rw q)
-  op-read null bs e rest m q = rw (node-op null) (demanded-met κ truth _ m ∙ rw q)
+  op-read hd bs e rest m q = rw (node-op hd) (allowed-met (opAllowed hd δ) _ _ m ∙ rw q)
+  op-read tl bs e rest m q = rw (node-op tl) (allowed-met (opAllowed tl δ) _ _ m ∙ rw q)
+  op-read null bs e rest m q = rw (node-op null) (allowed-met (opAllowed null δ) _ _ m ∙ rw q)
 
   if-read : (bs : List ℕ) (c : Expr) (r : List ℕ) (a : Expr) (r′ : List ℕ) (b : Expr) (rest : List ℕ)
-      → exprFrom H Γ d truth bs ≡ got c r → exprFrom H Γ d κ r ≡ got a r′ → exprFrom H Γ d κ r′ ≡ got b rest
-      → exprFrom H Γ (suc d) κ (0x23 ∷ bs) ≡ got (ifte c a b) rest
+      → exprFrom s H Γ d (only truth) bs ≡ got c r → exprFrom s H Γ d δ r ≡ got a r′ → exprFrom s H Γ d δ r′ ≡ got b rest
+      → exprFrom s H Γ (suc d) δ (0x23 ∷ bs) ≡ got (ifte c a b) rest
   unfolding exprFrom
-  if-read bs c r a r′ b rest p q s = rw node-if (rw (p, q, s))
+  if-read bs c r a r′ b rest p q t = rw node-if (rw (p, q, t))
 
-  call-read : (g : ℕ) (h : Header) (bs : List ℕ) (xs : Args) (rest : List ℕ) → g < mostFunctions → getElem? H g ≡ some h → κ ≡ resultKind h
-      → argsFrom (λ κ′ r. exprFrom H Γ d κ′ r) (paramKinds h) bs ≡ got xs rest → exprFrom H Γ (suc d) κ ((0x80 + g) ∷ bs) ≡ got (call g xs) rest
+  call-read : (g : ℕ) (h : Header) (bs : List ℕ) (xs : Args) (rest : List ℕ) → g < mostFunctions → getElem? H g ≡ some h → T (allows δ (resultKind h))
+      → argsFrom (λ δ′ r. exprFrom s H Γ d δ′ r) (paramKinds h) bs ≡ got xs rest → exprFrom s H Γ (suc d) δ ((0x80 + g) ∷ bs) ≡ got (call g xs) rest
   unfolding exprFrom
-  call-read g h bs xs rest l e m q = rw (node-call l, e) (demanded-met κ (resultKind h) _ m ∙ rw q)
+  call-read g h bs xs rest l e m q = rw (node-call l, e) (allowed-met (allows δ (resultKind h)) _ _ m ∙ rw q)
 
-module _ (P : Program) (H : List Header) (of-program : Heads P H) (few : length P ≤ mostFunctions) (Γ : List Kind)
+empty-read : (s : Sort) (H : List Header) (Γ : List Kind) (d : ℕ) (δ : Demand) (c : Contact) (rest : List ℕ)
+    → T (allows δ (list c)) → T (hasContact s c) → exprFrom s H Γ (suc d) δ (encodeExpr (empty c) ++ rest) ≡ got (empty c) rest
+unfolding exprFrom encodeExpr
+empty-read s H Γ d δ Ram rest m has = rw node-empty (allowed-met (allows δ (list Ram)) _ _ m)
+empty-read One H Γ d δ Guard rest m has = absurd has
+empty-read Two H Γ d δ Guard rest m has = rw node-empty-guard (allowed-met (allows δ (list Guard)) _ _ m)
+
+module _ (s : Sort) (P : Program) (H : List Header) (of-program : Heads P H) (few : length P ≤ mostFunctions) (Γ : List Kind)
     (narrow : length Γ ≤ mostParams) where
   mutual
     unfolding encodeExpr encodeArgs depth depthAll argsFrom
 
-    pub expr-read : (e : Expr) (d : ℕ) (κ : Kind) (rest : List ℕ) → Meets P Γ κ e → depth e ≤ d → exprFrom H Γ d κ (encodeExpr e ++ rest) ≡ got e rest
-    expr-read (constant b) zero κ rest m h = absurd (omega arith)
-    expr-read (constant b) (suc d) κ rest m h = constant-read H Γ d κ b rest m
-    expr-read empty zero κ rest m h = absurd (omega arith)
-    expr-read empty (suc d) κ rest m h = empty-read H Γ d κ rest m
-    expr-read (param i) zero κ rest m h = absurd (omega arith)
-    expr-read (param i) (suc d) κ rest m h = param-read H Γ d κ i rest (omega (arith, place-below Γ i κ m)) m
-    expr-read (op p e) zero κ rest m h = absurd (omega arith)
-    expr-read (op p e) (suc d) κ rest m h = op-read H Γ d κ p (encodeExpr e ++ rest) e rest (m .0) (expr-read e d list rest (m .1) (omega arith))
-    expr-read (ifte c a b) zero κ rest m h = absurd (omega arith)
-    expr-read (ifte c a b) (suc d) κ rest m h =
+    pub expr-read : (e : Expr) (d : ℕ) (δ : Demand) (rest : List ℕ) → Meets P Γ δ e → ExprOfSort s e → depth e ≤ d
+        → exprFrom s H Γ d δ (encodeExpr e ++ rest) ≡ got e rest
+    expr-read (constant b) zero δ rest m o h = absurd (omega arith)
+    expr-read (constant b) (suc d) δ rest m o h = constant-read s H Γ d δ b rest m
+    expr-read (empty c) zero δ rest m o h = absurd (omega arith)
+    expr-read (empty c) (suc d) δ rest m o h = empty-read s H Γ d δ c rest m o
+    expr-read (param i) zero δ rest m o h = absurd (omega arith)
+    expr-read (param i) (suc d) δ rest m o h =
+        param-read s H Γ d δ i (m .0) rest (omega (arith, place-below Γ i (m .0) (m .1))) (m .1) (m .2)
+    expr-read (op p e) zero δ rest m o h = absurd (omega arith)
+    expr-read (op p e) (suc d) δ rest m o h =
+        op-read s H Γ d δ p (encodeExpr e ++ rest) e rest (m .0) (expr-read e d (operandDemand p δ) rest (m .1) o (omega arith))
+    expr-read (ifte c a b) zero δ rest m o h = absurd (omega arith)
+    expr-read (ifte c a b) (suc d) δ rest m o h =
         let after-a = encodeExpr b ++ rest in
         let after-c = encodeExpr a ++ after-a in
         let hc : depth c ≤ d = omega arith in
         let ha : depth a ≤ d = omega arith in
         let hb : depth b ≤ d = omega arith in
         simp append-assoc
-        (if-read H Γ d κ (encodeExpr c ++ after-c) c after-c a after-a b rest
-        (expr-read c d truth after-c (m .0) hc) (expr-read a d κ after-a (m .1) ha) (expr-read b d κ rest (m .2) hb))
-    expr-read (call g xs) zero κ rest m h = absurd (omega arith)
-    expr-read (call g xs) (suc d) κ rest m h =
+        (if-read s H Γ d δ (encodeExpr c ++ after-c) c after-c a after-a b rest
+        (expr-read c d (only truth) after-c (m .0) (o .0) hc) (expr-read a d δ after-a (m .1) (o .1) ha) (expr-read b d δ rest (m .2) (o .2) hb))
+    expr-read (call g xs) zero δ rest m o h = absurd (omega arith)
+    expr-read (call g xs) (suc d) δ rest m o h =
         let w = header-of of-program g (m .0) (m .1) in
+        let meets : T (allows δ (resultKind (w .0))) = rw (w .2 .result) at (m .2) in
         let all : MeetAll P Γ (paramKinds (w .0)) xs = rw (w .2 .params) at (m .3) in
         let there = place-below P g (m .0) (m .1) in
-        call-read H Γ d κ g (w .0) (encodeArgs xs ++ rest) xs rest (omega arith) (w .1) (m .2 ∙ w .2 .result)
-        (args-read xs d (paramKinds (w .0)) rest all (omega arith))
+        call-read s H Γ d δ g (w .0) (encodeArgs xs ++ rest) xs rest (omega arith) (w .1) meets
+        (args-read xs d (paramKinds (w .0)) rest all o (omega arith))
 
-    pub args-read : (xs : Args) (d : ℕ) (κs : List Kind) (rest : List ℕ) → MeetAll P Γ κs xs → depthAll xs ≤ d
-        → argsFrom (λ κ r. exprFrom H Γ d κ r) κs (encodeArgs xs ++ rest) ≡ got xs rest
-    args-read noArgs d κs rest m h = rw m
-    args-read (arg e xs) d κs rest m h =
+    pub args-read : (xs : Args) (d : ℕ) (κs : List Kind) (rest : List ℕ) → MeetAll P Γ κs xs → ArgsOfSort s xs → depthAll xs ≤ d
+        → argsFrom (λ δ r. exprFrom s H Γ d δ r) κs (encodeArgs xs ++ rest) ≡ got xs rest
+    args-read noArgs d κs rest m o h = rw m
+    args-read (arg e xs) d κs rest m o h =
         let he : depth e ≤ d = omega arith in
         let hx : depthAll xs ≤ d = omega arith in
-        let first = expr-read e d (m .0) (encodeArgs xs ++ rest) (m .3) he in
-        let others = args-read xs d (m .1) rest (m .4) hx in
+        let first = expr-read e d (only (m .0)) (encodeArgs xs ++ rest) (m .3) (o .0) he in
+        let others = args-read xs d (m .1) rest (m .4) (o .1) hx in
         rw (m .2, append-assoc (encodeExpr e) (encodeArgs xs) rest, first, others)
 
 -- ---- Read, then written
 
--- bytes that are an expression and what follows it: within the depth d and of the kind κ
-abbrev pub Written : Program → List Kind → ℕ → Kind → List ℕ → Expr → List ℕ → Type 0
-Written P Γ d κ bs e rest = (bs ≡ encodeExpr e ++ rest) × (depth e ≤ d) × Meets P Γ κ e
+-- bytes that are an expression and what follows it: within the depth d, of a sort, and meeting a demand
+abbrev pub Written : Sort → Program → List Kind → ℕ → Demand → List ℕ → Expr → List ℕ → Type 0
+Written s P Γ d δ bs e rest = (bs ≡ encodeExpr e ++ rest) × (depth e ≤ d) × Meets P Γ δ e × ExprOfSort s e
 
 -- the same of arguments, each of its kind
-abbrev pub AllWritten : Program → List Kind → ℕ → List Kind → List ℕ → Args → List ℕ → Type 0
-AllWritten P Γ d κs bs xs rest = (bs ≡ encodeArgs xs ++ rest) × (depthAll xs ≤ d) × MeetAll P Γ κs xs
+abbrev pub AllWritten : Sort → Program → List Kind → ℕ → List Kind → List ℕ → Args → List ℕ → Type 0
+AllWritten s P Γ d κs bs xs rest = (bs ≡ encodeArgs xs ++ rest) × (depthAll xs ≤ d) × MeetAll P Γ κs xs × ArgsOfSort s xs
 
 -- what each node is written as
-module _ (P : Program) (Γ : List Kind) (d : ℕ) where
-  same-written : (κ : Kind) (bs : List ℕ) (e : Expr) (rest : List ℕ) (e′ : Expr) (rest′ : List ℕ)
-      → Written P Γ d κ bs e rest → got e rest ≡ got e′ rest′
-      → Written P Γ d κ bs e′ rest′
-  same-written κ bs e rest e′ rest′ w q = let same = got-inv q in rw (same .0, same .1) w
+module _ (s : Sort) (P : Program) (Γ : List Kind) (d : ℕ) where
+  same-written : (δ : Demand) (bs : List ℕ) (e : Expr) (rest : List ℕ) (e′ : Expr) (rest′ : List ℕ)
+      → Written s P Γ d δ bs e rest → got e rest ≡ got e′ rest′
+      → Written s P Γ d δ bs e′ rest′
+  same-written δ bs e rest e′ rest′ w q = let same = got-inv q in rw (same .0, same .1) w
 
-  constant-written : (b : Bool) (κ : Kind) (bs : List ℕ) → κ ≡ truth → Written P Γ (suc d) κ (encodeExpr (constant b) ++ bs) (constant b) bs
-  unfolding encodeExpr depth
-  constant-written b κ bs m = (refl, omega arith, m)
+  constant-written : (b : Bool) (δ : Demand) (bs : List ℕ) → T (allows δ truth)
+      → Written s P Γ (suc d) δ (encodeExpr (constant b) ++ bs) (constant b) bs
+  unfolding depth
+  constant-written b δ bs m = (refl, omega arith, m, tt)
 
-  empty-written : (κ : Kind) (bs : List ℕ) → κ ≡ list → Written P Γ (suc d) κ (encodeExpr empty ++ bs) empty bs
-  unfolding encodeExpr depth
-  empty-written κ bs m = (refl, omega arith, m)
+  empty-written : (c : Contact) (δ : Demand) (bs : List ℕ) → T (allows δ (list c)) → T (hasContact s c)
+      → Written s P Γ (suc d) δ (encodeExpr (empty c) ++ bs) (empty c) bs
+  unfolding depth
+  empty-written c δ bs m has = (refl, omega arith, m, has)
 
-  param-written : (i : ℕ) (κ : Kind) (bs : List ℕ) → getElem? Γ i ≡ some κ → Written P Γ (suc d) κ ((0x10 + i) ∷ bs) (param i) bs
+  param-written : (i : ℕ) (κ : Kind) (δ : Demand) (bs : List ℕ) → getElem? Γ i ≡ some κ → T (allows δ κ)
+      → Written s P Γ (suc d) δ ((0x10 + i) ∷ bs) (param i) bs
   unfolding encodeExpr depth
-  param-written i κ bs m = (refl, omega arith, m)
+  param-written i κ δ bs e m = (refl, omega arith, (κ, e, m), tt)
 
-  op-written : (p : Op) (κ : Kind) (bs : List ℕ) (e : Expr) (rest : List ℕ) → κ ≡ opKind p → Written P Γ d list bs e rest
-      → Written P Γ (suc d) κ (opByte p ∷ bs) (op p e) rest
+  op-written : (p : Op) (δ : Demand) (bs : List ℕ) (e : Expr) (rest : List ℕ) → T (opAllowed p δ) → Written s P Γ d (operandDemand p δ) bs e rest
+      → Written s P Γ (suc d) δ (opByte p ∷ bs) (op p e) rest
   unfolding encodeExpr depth
-  op-written p κ bs e rest m w = (ap (λ (l : List ℕ). opByte p ∷ l) (w .0), omega (arith, w .1), (m, w .2))
+  op-written p δ bs e rest m w = (ap (λ (l : List ℕ). opByte p ∷ l) (w .0), omega (arith, w .1), (m, w .2), w .3)
 
-  if-written : (κ : Kind) (bs : List ℕ) (c : Expr) (r : List ℕ) (a : Expr) (r′ : List ℕ) (b : Expr) (rest : List ℕ)
-      → Written P Γ d truth bs c r → Written P Γ d κ r a r′ → Written P Γ d κ r′ b rest → Written P Γ (suc d) κ (0x23 ∷ bs) (ifte c a b) rest
+  if-written : (δ : Demand) (bs : List ℕ) (c : Expr) (r : List ℕ) (a : Expr) (r′ : List ℕ) (b : Expr) (rest : List ℕ)
+      → Written s P Γ d (only truth) bs c r → Written s P Γ d δ r a r′ → Written s P Γ d δ r′ b rest
+      → Written s P Γ (suc d) δ (0x23 ∷ bs) (ifte c a b) rest
   unfolding encodeExpr depth
-  if-written κ bs c r a r′ b rest u v w = (rw (u .0, v .0, w .0) (simp append-assoc), omega (arith, u .1, v .1, w .1), (u .2, v .2, w .2))
+  if-written δ bs c r a r′ b rest u v w =
+      (rw (u .0, v .0, w .0) (simp append-assoc), omega (arith, u .1, v .1, w .1), (u .2, v .2, w .2), (u .3, v .3, w .3))
 
-  call-written : (g : ℕ) (f : Function) (κ : Kind) (bs : List ℕ) (xs : Args) (rest : List ℕ) → getElem? P g ≡ some f → κ ≡ f .result
-      → AllWritten P Γ d (f .params) bs xs rest
-      → Written P Γ (suc d) κ ((0x80 + g) ∷ bs) (call g xs) rest
+  call-written : (g : ℕ) (f : Function) (δ : Demand) (bs : List ℕ) (xs : Args) (rest : List ℕ) → getElem? P g ≡ some f → T (allows δ (f .result))
+      → AllWritten s P Γ d (f .params) bs xs rest
+      → Written s P Γ (suc d) δ ((0x80 + g) ∷ bs) (call g xs) rest
   unfolding encodeExpr depth
-  call-written g f κ bs xs rest e m w = (ap (λ (l : List ℕ). (0x80 + g) ∷ l) (w .0), omega (arith, w .1), (f, e, m, w .2))
+  call-written g f δ bs xs rest e m w = (ap (λ (l : List ℕ). (0x80 + g) ∷ l) (w .0), omega (arith, w .1), (f, e, m, w .2), w .3)
 
   same-all : (κs : List Kind) (bs : List ℕ) (xs : Args) (rest : List ℕ) (xs′ : Args) (rest′ : List ℕ)
-      → AllWritten P Γ d κs bs xs rest → got xs rest ≡ got xs′ rest′
-      → AllWritten P Γ d κs bs xs′ rest′
+      → AllWritten s P Γ d κs bs xs rest → got xs rest ≡ got xs′ rest′
+      → AllWritten s P Γ d κs bs xs′ rest′
   same-all κs bs xs rest xs′ rest′ w q = let same = got-inv q in rw (same .0, same .1) w
 
-  none-written : (bs : List ℕ) → AllWritten P Γ d [] bs noArgs bs
+  none-written : (bs : List ℕ) → AllWritten s P Γ d [] bs noArgs bs
   unfolding encodeArgs depthAll
-  none-written bs = (refl, omega arith, refl)
+  none-written bs = (refl, omega arith, refl, tt)
 
   arg-written : (κ : Kind) (κs : List Kind) (bs : List ℕ) (e : Expr) (r : List ℕ) (xs : Args) (rest : List ℕ)
-      → Written P Γ d κ bs e r → AllWritten P Γ d κs r xs rest
-      → AllWritten P Γ d (κ ∷ κs) bs (arg e xs) rest
+      → Written s P Γ d (only κ) bs e r → AllWritten s P Γ d κs r xs rest
+      → AllWritten s P Γ d (κ ∷ κs) bs (arg e xs) rest
   unfolding encodeArgs depthAll
-  arg-written κ κs bs e r xs rest u w = (rw (u .0, w .0) (simp append-assoc), omega (arith, u .1, w .1), (κ, κs, refl, u .2, w .2))
+  arg-written κ κs bs e r xs rest u w =
+      (rw (u .0, w .0) (simp append-assoc), omega (arith, u .1, w .1), (κ, κs, refl, u .2, w .2), (u .3, w .3))
+
+-- every program has lists of the ram, and where the empty guard list was read it has those of the guard
+ram-there : (s : Sort) → T (hasContact s Ram)
+ram-there One = tt
+ram-there Two = tt
+
+guard-inv : (s : Sort) (δ : Demand) (bs : List ℕ) (e : Expr) (rest : List ℕ) → guardEmptyFrom s δ bs ≡ got e rest
+    → T (hasContact s Guard) × (demanded δ (list Guard) (got (empty Guard) bs) ≡ got e rest)
+guard-inv One δ bs e rest q = absurd (not-got q)
+guard-inv Two δ bs e rest q = (tt, q)
 
 -- a reader whose readings are written so
-abbrev Faithful : Program → List Kind → ℕ → (Kind → List ℕ → Parsed Expr) → Type 0
-Faithful P Γ d read = (κ : Kind) (bs : List ℕ) (e : Expr) (rest : List ℕ) → read κ bs ≡ got e rest → Written P Γ d κ bs e rest
+abbrev Faithful : Sort → Program → List Kind → ℕ → Reader → Type 0
+Faithful s P Γ d read = (δ : Demand) (bs : List ℕ) (e : Expr) (rest : List ℕ) → read δ bs ≡ got e rest → Written s P Γ d δ bs e rest
 
-module _ (P : Program) (H : List Header) (of-program : Heads P H) (Γ : List Kind) where
-  module _ (d : ℕ) (read : Kind → List ℕ → Parsed Expr) (sound : Faithful P Γ d read) where
-    operands : (κs : List Kind) (bs : List ℕ) (xs : Args) (rest : List ℕ) → argsFrom read κs bs ≡ got xs rest → AllWritten P Γ d κs bs xs rest
+module _ (s : Sort) (P : Program) (H : List Header) (of-program : Heads P H) (Γ : List Kind) where
+  module _ (d : ℕ) (read : Reader) (sound : Faithful s P Γ d read) where
+    operands : (κs : List Kind) (bs : List ℕ) (xs : Args) (rest : List ℕ) → argsFrom read κs bs ≡ got xs rest → AllWritten s P Γ d κs bs xs rest
     unfolding argsFrom
-    operands [] bs xs rest q = same-all P Γ d [] bs noArgs bs xs rest (none-written P Γ d bs) q
-    operands (κ ∷ κs) bs xs rest q = first (λ r ys s. operands κs r ys s) (onward-inv (read κ bs) _ xs rest q)
+    operands [] bs xs rest q = same-all s P Γ d [] bs noArgs bs xs rest (none-written s P Γ d bs) q
+    operands (κ ∷ κs) bs xs rest q = first (λ r ys t. operands κs r ys t) (onward-inv (read (only κ) bs) _ xs rest q)
       where
         Rest : Type 0
-        Rest = (r : List ℕ) (ys : Args) (s : List ℕ) → argsFrom read κs r ≡ got ys s → AllWritten P Γ d κs r ys s
+        Rest = (r : List ℕ) (ys : Args) (t : List ℕ) → argsFrom read κs r ≡ got ys t → AllWritten s P Γ d κs r ys t
 
-        second : (e : Expr) (r : List ℕ) → read κ bs ≡ got e r → Rest → Onward (argsFrom read κs r) (λ ys s. got (arg e ys) s) xs rest
-            → AllWritten P Γ d (κ ∷ κs) bs xs rest
-        second e r p more (by ys s p′ l) =
-            same-all P Γ d (κ ∷ κs) bs (arg e ys) s xs rest (arg-written P Γ d κ κs bs e r ys s (sound κ bs e r p) (more r ys s p′)) l
+        second : (e : Expr) (r : List ℕ) → read (only κ) bs ≡ got e r → Rest → Onward (argsFrom read κs r) (λ ys t. got (arg e ys) t) xs rest
+            → AllWritten s P Γ d (κ ∷ κs) bs xs rest
+        second e r p more (by ys t p′ l) =
+            same-all s P Γ d (κ ∷ κs) bs (arg e ys) t xs rest (arg-written s P Γ d κ κs bs e r ys t (sound (only κ) bs e r p) (more r ys t p′)) l
 
-        first : Rest → Onward (read κ bs) (λ e r. onward (argsFrom read κs r) (λ ys s. got (arg e ys) s)) xs rest
-            → AllWritten P Γ d (κ ∷ κs) bs xs rest
+        first : Rest → Onward (read (only κ) bs) (λ e r. onward (argsFrom read κs r) (λ ys t. got (arg e ys) t)) xs rest
+            → AllWritten s P Γ d (κ ∷ κs) bs xs rest
         first more (by e r p l) = second e r p more (onward-inv (argsFrom read κs r) _ xs rest l)
 
-    param-node : (i : ℕ) (kind : Option Kind) → getElem? Γ i ≡ kind → (κ : Kind) (bs : List ℕ) (e : Expr) (rest : List ℕ)
-        → paramFrom kind κ i bs ≡ got e rest
-        → Written P Γ (suc d) κ ((0x10 + i) ∷ bs) e rest
-    param-node i none k κ bs e rest q = absurd (not-got q)
-    param-node i (some κ′) k κ bs e rest q =
-        let m = demanded-inv κ κ′ _ e rest q in
-        same-written P Γ (suc d) κ _ (param i) bs e rest (param-written P Γ d i κ bs (rw (m .0) k)) (m .1)
+    param-node : (i : ℕ) (kind : Option Kind) → getElem? Γ i ≡ kind → (δ : Demand) (bs : List ℕ) (e : Expr) (rest : List ℕ)
+        → paramFrom kind δ i bs ≡ got e rest
+        → Written s P Γ (suc d) δ ((0x10 + i) ∷ bs) e rest
+    param-node i none k δ bs e rest q = absurd (not-got q)
+    param-node i (some κ) k δ bs e rest q =
+        let m = allowed-inv (allows δ κ) _ _ e rest q in
+        same-written s P Γ (suc d) δ _ (param i) bs e rest (param-written s P Γ d i κ δ bs k (m .0)) (m .1)
 
-    call-node : (g : ℕ) (head : Option Header) → getElem? H g ≡ head → (κ : Kind) (bs : List ℕ) (e : Expr) (rest : List ℕ)
-        → callFrom head read κ g bs ≡ got e rest
-        → Written P Γ (suc d) κ ((0x80 + g) ∷ bs) e rest
-    call-node g none k κ bs e rest q = absurd (not-got q)
-    call-node g (some h) k κ bs e rest q =
-        let m = demanded-inv κ (resultKind h) _ e rest q in
+    call-node : (g : ℕ) (head : Option Header) → getElem? H g ≡ head → (δ : Demand) (bs : List ℕ) (e : Expr) (rest : List ℕ)
+        → callFrom head read δ g bs ≡ got e rest
+        → Written s P Γ (suc d) δ ((0x80 + g) ∷ bs) e rest
+    call-node g none k δ bs e rest q = absurd (not-got q)
+    call-node g (some h) k δ bs e rest q =
+        let m = allowed-inv (allows δ (resultKind h)) _ _ e rest q in
         go (m .0) (onward-inv (argsFrom read (paramKinds h) bs) _ e rest (m .1))
       where
-        go : κ ≡ resultKind h → Onward (argsFrom read (paramKinds h) bs) (λ xs r. got (call g xs) r) e rest
-            → Written P Γ (suc d) κ ((0x80 + g) ∷ bs) e rest
+        go : T (allows δ (resultKind h)) → Onward (argsFrom read (paramKinds h) bs) (λ xs r. got (call g xs) r) e rest
+            → Written s P Γ (suc d) δ ((0x80 + g) ∷ bs) e rest
         go m (by xs r p l) =
             let w = function-of of-program g h k in
-            let all : AllWritten P Γ d (w .0 .params) bs xs r = rw (w .2 .params) (operands (paramKinds h) bs xs r p) in
-            same-written P Γ (suc d) κ _ (call g xs) r e rest (call-written P Γ d g (w .0) κ bs xs r (w .1) (m ∙ sym (w .2 .result)) all) l
+            let meets : T (allows δ (w .0 .result)) = rw (w .2 .result) m in
+            let all : AllWritten s P Γ d (w .0 .params) bs xs r = rw (w .2 .params) (operands (paramKinds h) bs xs r p) in
+            same-written s P Γ (suc d) δ _ (call g xs) r e rest (call-written s P Γ d g (w .0) δ bs xs r (w .1) meets all) l
 
-    op-node : (p : Op) (κ : Kind) (bs : List ℕ) (e : Expr) (rest : List ℕ) → opFrom p read κ bs ≡ got e rest
-        → Written P Γ (suc d) κ (opByte p ∷ bs) e rest
-    op-node p κ bs e rest q = let m = demanded-inv κ (opKind p) _ e rest q in go (m .0) (onward-inv (read list bs) _ e rest (m .1))
+    op-node : (p : Op) (δ : Demand) (bs : List ℕ) (e : Expr) (rest : List ℕ) → opFrom p read δ bs ≡ got e rest
+        → Written s P Γ (suc d) δ (opByte p ∷ bs) e rest
+    op-node p δ bs e rest q =
+        let m = allowed-inv (opAllowed p δ) _ _ e rest q in go (m .0) (onward-inv (read (operandDemand p δ) bs) _ e rest (m .1))
       where
-        go : κ ≡ opKind p → Onward (read list bs) (λ a r. got (op p a) r) e rest → Written P Γ (suc d) κ (opByte p ∷ bs) e rest
-        go m (by a r k l) = same-written P Γ (suc d) κ _ (op p a) r e rest (op-written P Γ d p κ bs a r m (sound list bs a r k)) l
+        go : T (opAllowed p δ) → Onward (read (operandDemand p δ) bs) (λ a r. got (op p a) r) e rest → Written s P Γ (suc d) δ (opByte p ∷ bs) e rest
+        go m (by a r k l) =
+            same-written s P Γ (suc d) δ _ (op p a) r e rest (op-written s P Γ d p δ bs a r m (sound (operandDemand p δ) bs a r k)) l
 
-    if-node : (κ : Kind) (bs : List ℕ) (e : Expr) (rest : List ℕ) → ifFrom read κ bs ≡ got e rest → Written P Γ (suc d) κ (0x23 ∷ bs) e rest
-    if-node κ bs e rest q = first (onward-inv (read truth bs) _ e rest q)
+    if-node : (δ : Demand) (bs : List ℕ) (e : Expr) (rest : List ℕ) → ifFrom read δ bs ≡ got e rest → Written s P Γ (suc d) δ (0x23 ∷ bs) e rest
+    if-node δ bs e rest q = first (onward-inv (read (only truth) bs) _ e rest q)
       where
-        third : (c : Expr) (r : List ℕ) (a : Expr) (r′ : List ℕ) → Written P Γ d truth bs c r → Written P Γ d κ r a r′
-            → Onward (read κ r′) (λ b r″. got (ifte c a b) r″) e rest
-            → Written P Γ (suc d) κ (0x23 ∷ bs) e rest
+        third : (c : Expr) (r : List ℕ) (a : Expr) (r′ : List ℕ) → Written s P Γ d (only truth) bs c r → Written s P Γ d δ r a r′
+            → Onward (read δ r′) (λ b r″. got (ifte c a b) r″) e rest
+            → Written s P Γ (suc d) δ (0x23 ∷ bs) e rest
         third c r a r′ u v (by b r″ k l) =
-            same-written P Γ (suc d) κ _ (ifte c a b) r″ e rest (if-written P Γ d κ bs c r a r′ b r″ u v (sound κ r′ b r″ k)) l
+            same-written s P Γ (suc d) δ _ (ifte c a b) r″ e rest (if-written s P Γ d δ bs c r a r′ b r″ u v (sound δ r′ b r″ k)) l
 
-        second : (c : Expr) (r : List ℕ) → Written P Γ d truth bs c r
-            → Onward (read κ r) (λ a r′. onward (read κ r′) (λ b r″. got (ifte c a b) r″)) e rest
-            → Written P Γ (suc d) κ (0x23 ∷ bs) e rest
-        second c r u (by a r′ k l) = third c r a r′ u (sound κ r a r′ k) (onward-inv (read κ r′) _ e rest l)
+        second : (c : Expr) (r : List ℕ) → Written s P Γ d (only truth) bs c r
+            → Onward (read δ r) (λ a r′. onward (read δ r′) (λ b r″. got (ifte c a b) r″)) e rest
+            → Written s P Γ (suc d) δ (0x23 ∷ bs) e rest
+        second c r u (by a r′ k l) = third c r a r′ u (sound δ r a r′ k) (onward-inv (read δ r′) _ e rest l)
 
-        first : Onward (read truth bs) (λ c r. onward (read κ r) (λ a r′. onward (read κ r′) (λ b r″. got (ifte c a b) r″))) e rest
-            → Written P Γ (suc d) κ (0x23 ∷ bs) e rest
-        first (by c r k l) = second c r (sound truth bs c r k) (onward-inv (read κ r) _ e rest l)
+        first : Onward (read (only truth) bs) (λ c r. onward (read δ r) (λ a r′. onward (read δ r′) (λ b r″. got (ifte c a b) r″))) e rest
+            → Written s P Γ (suc d) δ (0x23 ∷ bs) e rest
+        first (by c r k l) = second c r (sound (only truth) bs c r k) (onward-inv (read δ r) _ e rest l)
 
     -- a node without operands
-    leaf : (e₀ : Expr) (κ kind : Kind) (bs : List ℕ) (e : Expr) (rest : List ℕ)
-        → (κ ≡ kind → Written P Γ (suc d) κ (encodeExpr e₀ ++ bs) e₀ bs) → demanded κ kind (got e₀ bs) ≡ got e rest
-        → Written P Γ (suc d) κ (encodeExpr e₀ ++ bs) e rest
-    leaf e₀ κ kind bs e rest made q = let m = demanded-inv κ kind _ e rest q in same-written P Γ (suc d) κ _ e₀ bs e rest (made (m .0)) (m .1)
+    leaf : (e₀ : Expr) (δ : Demand) (κ : Kind) (bs : List ℕ) (e : Expr) (rest : List ℕ)
+        → (T (allows δ κ) → Written s P Γ (suc d) δ (encodeExpr e₀ ++ bs) e₀ bs) → demanded δ κ (got e₀ bs) ≡ got e rest
+        → Written s P Γ (suc d) δ (encodeExpr e₀ ++ bs) e rest
+    leaf e₀ δ κ bs e rest made q =
+        let m = allowed-inv (allows δ κ) _ _ e rest q in same-written s P Γ (suc d) δ _ e₀ bs e rest (made (m .0)) (m .1)
 
-    node-written : (n : Node) (b : ℕ) → ByteOf n b → (κ : Kind) (bs : List ℕ) (e : Expr) (rest : List ℕ) → nodeFrom H Γ read κ n bs ≡ got e rest
-        → Written P Γ (suc d) κ (b ∷ bs) e rest
+    constant-node : (b : Bool) (δ : Demand) (bs : List ℕ) (e : Expr) (rest : List ℕ) → demanded δ truth (got (constant b) bs) ≡ got e rest
+        → Written s P Γ (suc d) δ (encodeExpr (constant b) ++ bs) e rest
+    constant-node b δ bs e rest q = leaf (constant b) δ truth bs e rest (λ m. constant-written s P Γ d b δ bs m) q
+
+    empty-node : (c : Contact) → T (hasContact s c) → (δ : Demand) (bs : List ℕ) (e : Expr) (rest : List ℕ)
+        → demanded δ (list c) (got (empty c) bs) ≡ got e rest → Written s P Γ (suc d) δ (encodeExpr (empty c) ++ bs) e rest
+    empty-node c has δ bs e rest q = leaf (empty c) δ (list c) bs e rest (λ m. empty-written s P Γ d c δ bs m has) q
+
+    node-written : (n : Node) (b : ℕ) → ByteOf n b → (δ : Demand) (bs : List ℕ) (e : Expr) (rest : List ℕ) → nodeFrom s H Γ read δ n bs ≡ got e rest
+        → Written s P Γ (suc d) δ (b ∷ bs) e rest
     unfolding encodeExpr
-    node-written node.False b byte κ bs e rest q = rw byte (leaf (constant false) κ truth bs e rest (λ m. constant-written P Γ d false κ bs m) q)
-    node-written node.True b byte κ bs e rest q = rw byte (leaf (constant true) κ truth bs e rest (λ m. constant-written P Γ d true κ bs m) q)
-    node-written node.Empty b byte κ bs e rest q = rw byte (leaf empty κ list bs e rest (λ m. empty-written P Γ d κ bs m) q)
-    node-written (node.Param i) b byte κ bs e rest q = rw (byte .0) (param-node i (getElem? Γ i) refl κ bs e rest q)
-    node-written node.Head b byte κ bs e rest q = rw byte (op-node hd κ bs e rest q)
-    node-written node.Tail b byte κ bs e rest q = rw byte (op-node tl κ bs e rest q)
-    node-written node.Null b byte κ bs e rest q = rw byte (op-node null κ bs e rest q)
-    node-written node.If b byte κ bs e rest q = rw byte (if-node κ bs e rest q)
-    node-written node.Cons b byte κ bs e rest q = absurd (not-got q)
-    node-written (node.Call g) b byte κ bs e rest q = rw (byte .0) (call-node g (getElem? H g) refl κ bs e rest q)
-    node-written node.Unknown b byte κ bs e rest q = absurd (not-got q)
+    node-written node.False b byte δ bs e rest q = rw byte (constant-node false δ bs e rest q)
+    node-written node.True b byte δ bs e rest q = rw byte (constant-node true δ bs e rest q)
+    node-written node.Empty b byte δ bs e rest q = rw byte (empty-node Ram (ram-there s) δ bs e rest q)
+    node-written node.EmptyGuard b byte δ bs e rest q =
+        let g = guard-inv s δ bs e rest q in rw byte (empty-node Guard (g .0) δ bs e rest (g .1))
+    node-written (node.Param i) b byte δ bs e rest q = rw (byte .0) (param-node i (getElem? Γ i) refl δ bs e rest q)
+    node-written node.Head b byte δ bs e rest q = rw byte (op-node hd δ bs e rest q)
+    node-written node.Tail b byte δ bs e rest q = rw byte (op-node tl δ bs e rest q)
+    node-written node.Null b byte δ bs e rest q = rw byte (op-node null δ bs e rest q)
+    node-written node.If b byte δ bs e rest q = rw byte (if-node δ bs e rest q)
+    node-written node.Cons b byte δ bs e rest q = absurd (not-got q)
+    node-written (node.Call g) b byte δ bs e rest q = rw (byte .0) (call-node g (getElem? H g) refl δ bs e rest q)
+    node-written node.Unknown b byte δ bs e rest q = absurd (not-got q)
 
-  pub expr-written : (d : ℕ) (κ : Kind) (bs : List ℕ) (e : Expr) (rest : List ℕ) → exprFrom H Γ d κ bs ≡ got e rest → Written P Γ d κ bs e rest
+  pub expr-written : (d : ℕ) (δ : Demand) (bs : List ℕ) (e : Expr) (rest : List ℕ) → exprFrom s H Γ d δ bs ≡ got e rest → Written s P Γ d δ bs e rest
   unfolding exprFrom
-  expr-written zero κ [] e rest q = absurd (not-got q)
-  expr-written zero κ (b ∷ bs) e rest q = absurd (not-got q)
-  expr-written (suc d) κ [] e rest q = absurd (not-got q)
-  expr-written (suc d) κ (b ∷ bs) e rest q =
-      node-written d (λ κ′ r. exprFrom H Γ d κ′ r) (λ κ′ r x s p. expr-written d κ′ r x s p) (nodeOf b) b (node-inv b (nodeOf b) refl) κ bs e rest q
+  expr-written zero δ [] e rest q = absurd (not-got q)
+  expr-written zero δ (b ∷ bs) e rest q = absurd (not-got q)
+  expr-written (suc d) δ [] e rest q = absurd (not-got q)
+  expr-written (suc d) δ (b ∷ bs) e rest q =
+      node-written d (λ δ′ r. exprFrom s H Γ d δ′ r) (λ δ′ r x t p. expr-written d δ′ r x t p) (nodeOf b) b (node-inv b (nodeOf b) refl) δ bs e rest q
 
   pub args-written : (d : ℕ) (κs : List Kind) (bs : List ℕ) (xs : Args) (rest : List ℕ)
-      → argsFrom (λ κ r. exprFrom H Γ d κ r) κs bs ≡ got xs rest → AllWritten P Γ d κs bs xs rest
-  args-written d κs bs xs rest q = operands d (λ κ r. exprFrom H Γ d κ r) (λ κ r e s p. expr-written d κ r e s p) κs bs xs rest q
+      → argsFrom (λ δ r. exprFrom s H Γ d δ r) κs bs ≡ got xs rest → AllWritten s P Γ d κs bs xs rest
+  args-written d κs bs xs rest q = operands d (λ δ r. exprFrom s H Γ d δ r) (λ δ r e t p. expr-written d δ r e t p) κs bs xs rest q

@@ -1,87 +1,100 @@
 -- The frame that an array of headers has is the one that it was made of:
---   heads-frame     after both copies and the three places after them
-use mathlib.Core.Path.{_≡_, sym, ap, _∙_}
-use mathlib.Core.List.{List, _++_, append-assoc}
-use Prim.Native.Nat.{ℕ, _+_, _-_, _≤_}
+--   heads-frame     after the three copies and the five places after them
+use mathlib.Core.Path.{_≡_, refl, sym, ap, _∙_}
+use mathlib.Core.List.{List, [], _∷_, _++_, append-assoc}
+use Prim.Native.Nat.{ℕ, _+_, _≤_}
 use native.Mathlib.Omega.{arith}
-use lib.ListN.{length, getD, take, drop, set, length-set}
-use lib.Seq.{paste, length-paste, take-paste, take-length, take-at, drop-at, take-set-le, drop-set-add, getD-set-same, getD-set-other}
+use lib.ListN.{length, getD, take, drop, set}
+use lib.Seq.{paste, length-paste, take-paste, take-length, take-at, drop-at, drop-drop, getD-drop, sets-eq}
 use Rattle.syntax.specs.Limits.{mostFunctions}
-use Rattle.rule.specs.Walk.{frame, kindsPlace, functionsPlace, ownParamsPlace, ownKindsPlace, headsLength, frameIn}
+use Rattle.rule.specs.Walk.{frame, kindsPlace, guardsPlace, functionsPlace, ownParamsPlace, ownKindsPlace, ownGuardPlace, contactsPlace, headsLength, frameIn}
 
--- the counts, then the kinds bytes
-module _ (heads params kinds : List ℕ) (n : length heads ≡ headsLength) (p : length params ≡ mostFunctions) (k : length kinds ≡ mostFunctions) where
+-- ---- The parts of an array that is laid out so
+
+module _ (params kinds guards rest : List ℕ) (p : length params ≡ mostFunctions) (k : length kinds ≡ mostFunctions)
+    (g : length guards ≡ mostFunctions) where
+  abbrev Laid : List ℕ
+  Laid = params ++ (kinds ++ (guards ++ rest))
+
+  laid-params : take mostFunctions Laid ≡ params
+  laid-params = take-at params (kinds ++ (guards ++ rest)) mostFunctions p
+
+  from-kinds : drop kindsPlace Laid ≡ kinds ++ (guards ++ rest)
+  from-kinds = drop-at params (kinds ++ (guards ++ rest)) kindsPlace p
+
+  laid-kinds : take mostFunctions (drop kindsPlace Laid) ≡ kinds
+  laid-kinds = rw from-kinds (take-at kinds (guards ++ rest) mostFunctions k)
+
+  from-guards : drop guardsPlace Laid ≡ guards ++ rest
+  from-guards = sym (drop-drop mostFunctions kindsPlace Laid) ∙ ap (drop mostFunctions) from-kinds ∙ drop-at kinds (guards ++ rest) mostFunctions k
+
+  laid-guards : take mostFunctions (drop guardsPlace Laid) ≡ guards
+  laid-guards = rw from-guards (take-at guards rest mostFunctions g)
+
+  laid-rest : (i : ℕ) → getD Laid (functionsPlace + i) 0 ≡ getD rest i 0
+  laid-rest i =
+      let after : drop functionsPlace Laid ≡ rest =
+      sym (drop-drop mostFunctions guardsPlace Laid) ∙ ap (drop mostFunctions) from-guards ∙ drop-at guards rest mostFunctions g in
+      sym (getD-drop functionsPlace Laid i 0) ∙ ap (λ (l : List ℕ). getD l i 0) after
+
+-- ---- The code's array is
+
+-- a copy to the place after some elements that are known
+pasted : (d s l : List ℕ) (at to : ℕ) → at + length s ≡ to → to ≤ length d → take at d ≡ l → take to (paste d at s (length s)) ≡ l ++ s
+pasted d s l at to e h q =
+    ap (λ (m : ℕ). take m (paste d at s (length s))) (sym e)
+    ∙ take-paste d at s (length s) (omega arith) (omega arith)
+    ∙ ap (λ (x : List ℕ). x ++ take (length s) s) q
+    ∙ ap (λ (x : List ℕ). l ++ x) (take-length s)
+
+module _ (heads params kinds guards : List ℕ) (n : length heads ≡ headsLength) (p : length params ≡ mostFunctions)
+    (k : length kinds ≡ mostFunctions) (g : length guards ≡ mostFunctions) where
   abbrev First : List ℕ
   First = paste heads 0 params (length params)
 
-  abbrev Both : List ℕ
-  Both = paste First kindsPlace kinds (length kinds)
+  abbrev Second : List ℕ
+  Second = paste First kindsPlace kinds (length kinds)
+
+  abbrev Third : List ℕ
+  Third = paste Second guardsPlace guards (length guards)
 
   length-first : length First ≡ headsLength
   length-first = length-paste heads 0 params (length params) (omega arith) (omega arith) ∙ n
 
-  length-both : length Both ≡ headsLength
-  length-both = length-paste First kindsPlace kinds (length kinds) (omega (arith, length-first)) (omega arith) ∙ length-first
+  length-second : length Second ≡ headsLength
+  length-second = length-paste First kindsPlace kinds (length kinds) (omega (arith, length-first)) (omega arith) ∙ length-first
 
-  first-params : take mostFunctions First ≡ params
-  first-params =
-      let all : 0 + length params ≡ mostFunctions = omega arith in
-      ap (λ (m : ℕ). take m First) (sym all) ∙ take-paste heads 0 params (length params) (omega arith) (omega arith) ∙ take-length params
+  length-third : length Third ≡ headsLength
+  length-third = length-paste Second guardsPlace guards (length guards) (omega (arith, length-second)) (omega arith) ∙ length-second
 
-  long : length (take mostFunctions First) ≡ kindsPlace
-  long = ap length first-params ∙ p
+  third : take functionsPlace Third ≡ (params ++ kinds) ++ guards
+  third =
+      pasted Second guards (params ++ kinds) guardsPlace functionsPlace (omega arith) (omega (arith, length-second))
+      (pasted First kinds params kindsPlace guardsPlace (omega arith) (omega (arith, length-first))
+      (pasted heads params [] 0 kindsPlace (omega arith) (omega arith) refl))
 
-  abbrev Rest : List ℕ
-  Rest = take (length kinds) kinds ++ drop (kindsPlace + length kinds) First
-
-  split : Both ≡ take mostFunctions First ++ Rest
-  split = append-assoc (take mostFunctions First) (take (length kinds) kinds) (drop (kindsPlace + length kinds) First)
-
-  both-params : take mostFunctions Both ≡ params
-  both-params = ap (take mostFunctions) split ∙ take-at (take mostFunctions First) Rest kindsPlace long ∙ first-params
-
-  both-kinds : take mostFunctions (drop kindsPlace Both) ≡ kinds
-  both-kinds =
-      ap (λ (l : List ℕ). take mostFunctions (drop kindsPlace l)) split
-      ∙ ap (take mostFunctions) (drop-at (take mostFunctions First) Rest kindsPlace long)
-      ∙ take-at (take (length kinds) kinds) (drop (kindsPlace + length kinds) First) mostFunctions (ap length (take-length kinds) ∙ k)
-      ∙ take-length kinds
-
--- a place after both leaves them
-module _ (l : List ℕ) (i a : ℕ) where
-  set-params : mostFunctions ≤ i → take mostFunctions (set l i a) ≡ take mostFunctions l
-  set-params h = take-set-le mostFunctions l i a h
-
-  set-kinds : mostFunctions ≤ i → take mostFunctions (drop kindsPlace (set l (kindsPlace + i) a)) ≡ take mostFunctions (drop kindsPlace l)
-  set-kinds h = ap (take mostFunctions) (drop-set-add kindsPlace l i a) ∙ take-set-le mostFunctions (drop kindsPlace l) i a h
-
-pub heads-frame : (body heads params kinds : List ℕ) (count ownParams ownKinds : ℕ) → length heads ≡ headsLength
-    → length params ≡ mostFunctions → length kinds ≡ mostFunctions
-    → frameIn body
-    (set
-    (set (set (paste (paste heads 0 params (length params)) kindsPlace kinds (length kinds)) functionsPlace count) ownParamsPlace ownParams)
-    ownKindsPlace ownKinds) ≡ frame body count params kinds ownParams ownKinds
-heads-frame body heads params kinds count ownParams ownKinds n p k =
-    let both = Both heads params kinds n p k in
-    let one = set both functionsPlace count in
-    let two = set one ownParamsPlace ownParams in
-    let room : length one ≡ headsLength = length-set both functionsPlace count ∙ length-both heads params kinds n p k in
-    let more : length two ≡ headsLength = length-set one ownParamsPlace ownParams ∙ room in
-    let counts : take mostFunctions (set two ownKindsPlace ownKinds) ≡ params =
-    set-params two ownKindsPlace ownKinds (omega arith)
-    ∙ set-params one ownParamsPlace ownParams (omega arith)
-    ∙ set-params both functionsPlace count (omega arith)
-    ∙ both-params heads params kinds n p k in
-    let bits : take mostFunctions (drop kindsPlace (set two ownKindsPlace ownKinds)) ≡ kinds =
-    set-kinds two (ownKindsPlace - kindsPlace) ownKinds (omega arith)
-    ∙ set-kinds one (ownParamsPlace - kindsPlace) ownParams (omega arith)
-    ∙ set-kinds both (functionsPlace - kindsPlace) count (omega arith)
-    ∙ both-kinds heads params kinds n p k in
-    let functions : getD (set two ownKindsPlace ownKinds) functionsPlace 0 ≡ count =
-    getD-set-other two ownKindsPlace functionsPlace ownKinds 0 (λ e. omega arith)
-    ∙ getD-set-other one ownParamsPlace functionsPlace ownParams 0 (λ e. omega arith)
-    ∙ getD-set-same both functionsPlace count 0 (omega (arith, length-both heads params kinds n p k)) in
-    let own : getD (set two ownKindsPlace ownKinds) ownParamsPlace 0 ≡ ownParams =
-    getD-set-other two ownKindsPlace ownParamsPlace ownKinds 0 (λ e. omega arith) ∙ getD-set-same one ownParamsPlace ownParams 0 (omega arith) in
-    let last : getD (set two ownKindsPlace ownKinds) ownKindsPlace 0 ≡ ownKinds = getD-set-same two ownKindsPlace ownKinds 0 (omega arith) in
-    λ i. record { body = body; functions = functions i; params = counts i; kinds = bits i; ownParams = own i; ownKinds = last i }
+  pub heads-frame : (body : List ℕ) (count ownParams ownKinds ownGuard contacts : ℕ)
+      → frameIn body
+      (set
+      (set (set (set (set Third functionsPlace count) ownParamsPlace ownParams) ownKindsPlace ownKinds) ownGuardPlace ownGuard)
+      contactsPlace contacts) ≡ frame body contacts count params kinds guards ownParams ownKinds ownGuard
+  heads-frame body count ownParams ownKinds ownGuard contacts =
+      let own = count ∷ ownParams ∷ ownKinds ∷ ownGuard ∷ contacts ∷ [] in
+      let rest = own ++ drop headsLength Third in
+      let laid = Laid params kinds guards rest p k g in
+      let apart : (params ++ kinds) ++ guards ++ own ++ drop headsLength Third ≡ laid = simp append-assoc in
+      let same =
+      sets-eq own Third functionsPlace (omega (arith, length-third)) ∙ ap (λ (l : List ℕ). l ++ own ++ drop headsLength Third) third ∙ apart in
+      let at = laid-rest params kinds guards rest p k g in
+      ap (frameIn body) same
+      ∙ (λ i. record {
+        body = body;
+        contacts = at 4 i;
+        functions = at 0 i;
+        params = laid-params params kinds guards rest p k g i;
+        kinds = laid-kinds params kinds guards rest p k g i;
+        guards = laid-guards params kinds guards rest p k g i;
+        ownParams = at 1 i;
+        ownKinds = at 2 i;
+        ownGuard = at 3 i;
+      })

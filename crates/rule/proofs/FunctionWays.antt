@@ -1,4 +1,4 @@
--- Laws of a program's functions, one for each way through the code. `p` is what the headers were read as:
+-- Laws of the functions of a program of a sort, one for each way through the code:
 --   scan-stopped          a header was refused
 --   bytes-after           10
 --   wrong-main            11
@@ -18,6 +18,7 @@ use Rattle.refusal.specs.declared.Check.{Check}
 use Rattle.refusal.specs.declared.Check.the-variants.{Passed, Refused}
 use Rattle.refusal.proofs.Numbers.{refused-same}
 use Rattle.refusal.proofs.Numbers as numbers
+use Rattle.semantics.specs.declared.Sort.{Sort}
 use Rattle.semantics.specs.Language.{Program}
 use Rattle.rule.specs.declared.Outline.{Outline}
 use Rattle.rule.specs.declared.Judged.{Judged}
@@ -28,41 +29,42 @@ use Rattle.rule.specs.Walk.{Counted, Placed, rawOutline, scanFrom, mainB
 use Rattle.rule.proofs.CheckMeaning.{CheckMeans, check-means}
 
 -- headers that were read: none was refused
-pub record Read (bytes : List ℕ) (count : ℕ) (scan : Scan) : Type 0 where
+pub record Read (s : Sort) (bytes : List ℕ) (count : ℕ) (scan : Scan) : Type 0 where
   pub xs : List Raw
   pub rest : List ℕ
-  pub raws : rawsFrom count (drop 1 bytes) ≡ got xs rest
-  pub outline : scan .outline ≡ rawOutline xs
+  pub raws : rawsFrom s count (drop 1 bytes) ≡ got xs rest
+  pub outline : scan .outline ≡ rawOutline s xs
   pub end : scan .end ≡ length bytes - length rest
-  pub means : CheckMeans bytes count xs rest
+  pub means : CheckMeans s bytes count xs rest
 
-module _ (bytes : List ℕ) (count : ℕ) (scan : Scan) (e : scan ≡ scanFrom (length bytes) (rawsFrom count (drop 1 bytes))) where
-  pub scan-stopped : {f : Refusal} → scan .check ≡ Refused f → judgedFrom (onward (rawsFrom count (drop 1 bytes)) bodiesFrom) ≡ judgedFrom (refused f)
-  scan-stopped {f} q = go (rawsFrom count (drop 1 bytes)) (ap (λ (s : Scan). s .check) (sym e) ∙ q)
+module _ (s : Sort) (bytes : List ℕ) (count : ℕ) (scan : Scan) (e : scan ≡ scanFrom s (length bytes) (rawsFrom s count (drop 1 bytes))) where
+  pub scan-stopped : {f : Refusal} → scan .check ≡ Refused f → judgedFrom s (onward (rawsFrom s count (drop 1 bytes)) (bodiesFrom s)) ≡ judgedFrom
+      s (refused f)
+  scan-stopped {f} q = go (rawsFrom s count (drop 1 bytes)) (ap (λ (x : Scan). x .check) (sym e) ∙ q)
     where
-      go : (p : Parsed (List Raw)) → scanFrom (length bytes) p .check ≡ Refused f → judgedFrom (onward p bodiesFrom) ≡ judgedFrom (refused f)
+      go : (p : Parsed (List Raw)) → scanFrom s (length bytes) p .check ≡ Refused f → judgedFrom s (onward p (bodiesFrom s)) ≡ judgedFrom s (refused f)
       go (got xs rest) q = absurd (numbers.refused (sym q))
-      go (refused g) q = ap (λ (x : Refusal). judgedFrom (refused x)) (refused-same q)
+      go (refused g) q = ap (λ (x : Refusal). judgedFrom s (refused x)) (refused-same q)
 
-  pub scan-read : Counted bytes count → scan .check ≡ Passed → Read bytes count scan
-  scan-read c q = go (rawsFrom count (drop 1 bytes)) refl
+  pub scan-read : Counted bytes count → scan .check ≡ Passed → Read s bytes count scan
+  scan-read c q = go (rawsFrom s count (drop 1 bytes)) refl
     where
-      go : (p : Parsed (List Raw)) → rawsFrom count (drop 1 bytes) ≡ p → Read bytes count scan
+      go : (p : Parsed (List Raw)) → rawsFrom s count (drop 1 bytes) ≡ p → Read s bytes count scan
       go (got xs rest) r =
-          let s : scan ≡ scanFrom (length bytes) (got xs rest) = e ∙ ap (scanFrom (length bytes)) r in
+          let same : scan ≡ scanFrom s (length bytes) (got xs rest) = e ∙ ap (scanFrom s (length bytes)) r in
           record {
             xs = xs;
             rest = rest;
             raws = r;
-            outline = ap (λ (x : Scan). x .outline) s;
-            end = ap (λ (x : Scan). x .end) s;
-            means = check-means bytes count xs rest (c .few) (c .some) (c .short) r;
+            outline = ap (λ (x : Scan). x .outline) same;
+            end = ap (λ (x : Scan). x .end) same;
+            means = check-means s bytes count xs rest (c .few) (c .some) (c .short) r;
           }
-      go (refused f) r = absurd (numbers.refused (sym (ap (λ (x : Scan). x .check) (e ∙ ap (scanFrom (length bytes)) r)) ∙ q))
+      go (refused f) r = absurd (numbers.refused (sym (ap (λ (x : Scan). x .check) (e ∙ ap (scanFrom s (length bytes)) r)) ∙ q))
 
-module _ {bytes : List ℕ} {count : ℕ} {scan : Scan} (r : Read bytes count scan) where
+module _ {s : Sort} {bytes : List ℕ} {count : ℕ} {scan : Scan} (r : Read s bytes count scan) where
   pub bytes-after : scan .end < length bytes
-      → judgedFrom (onward (rawsFrom count (drop 1 bytes)) bodiesFrom) ≡ judgedFrom (refused BytesAfterFunctions)
+      → judgedFrom s (onward (rawsFrom s count (drop 1 bytes)) (bodiesFrom s)) ≡ judgedFrom s (refused BytesAfterFunctions)
   bytes-after h =
       let some : length (r .rest) ≡ 0 → ⊥ = λ z. omega (arith, r .end) in
       rw (r .raws, ne-eqb _ _ some)
@@ -71,40 +73,48 @@ module _ {bytes : List ℕ} {count : ℕ} {scan : Scan} (r : Read bytes count sc
     none : eqb (length (r .rest)) 0 ≡ true
     none = let all : length (r .rest) ≡ 0 = omega (arith, r .end, r .means .after, r .means .within) in eq-eqb _ _ all
 
-    pub main-bits : {b : Bool} → b ≡ mainBits (getD (scan .outline .params) 0 0) (getD (scan .outline .kinds) 0 0) → b ≡ mainFirst (headers (r .xs))
-    main-bits q = q ∙ ap (λ (l : Outline). mainBits (getD (l .params) 0 0) (getD (l .kinds) 0 0)) (r .outline) ∙ r .means .main
+    pub main-bits : {b : Bool} → b ≡ mainBits s (getD (scan .outline .params) 0 0) (getD (scan .outline .kinds) 0 0)
+        (getD (scan .outline .guards) 0 0) → b ≡ mainFirst s (headers (r .xs))
+    main-bits q = q ∙ ap (λ (l : Outline). mainBits s (getD (l .params) 0 0) (getD (l .kinds) 0 0) (getD (l .guards) 0 0)) (r .outline) ∙ r .means .main
 
-    pub wrong-main : mainFirst (headers (r .xs)) ≡ false
-        → judgedFrom (onward (rawsFrom count (drop 1 bytes)) bodiesFrom) ≡ judgedFrom (refused MainKind)
+    pub wrong-main : mainFirst s (headers (r .xs)) ≡ false
+        → judgedFrom s (onward (rawsFrom s count (drop 1 bytes)) (bodiesFrom s)) ≡ judgedFrom s (refused MainKind)
     wrong-main m = rw (r .raws, none, m)
 
-    bodies-left : mainFirst (headers (r .xs)) ≡ true → onward (rawsFrom count (drop 1 bytes)) bodiesFrom ≡ functionsFrom (headers (r .xs)) (r .xs)
+    bodies-left : mainFirst s (headers (r .xs)) ≡ true → onward (rawsFrom s count (drop 1 bytes)) (bodiesFrom s) ≡ functionsFrom s
+        (headers (r .xs)) (r .xs)
     bodies-left m = rw (r .raws, none, m)
 
     bodies-are : {k : Check}
-        → k ≡ bodiesAt (frameAt bytes count (scan .outline .params) (scan .outline .kinds) (scan .outline .starts) (scan .outline .ends)) count 0
-        → k ≡ checkFrom (functionsFrom (headers (r .xs)) (r .xs))
+        → k ≡ bodiesAt
+        (frameAt bytes s count (scan .outline .params) (scan .outline .kinds) (scan .outline .guards) (scan .outline .starts) (scan .outline .ends))
+        count 0
+        → k ≡ checkFrom (functionsFrom s (headers (r .xs)) (r .xs))
     bodies-are q =
-        q ∙ ap (λ (l : Outline). bodiesAt (frameAt bytes count (l .params) (l .kinds) (l .starts) (l .ends)) count 0) (r .outline) ∙ r .means .bodies
+        q ∙ ap (λ (l : Outline). bodiesAt (frameAt bytes s count (l .params) (l .kinds) (l .guards) (l .starts) (l .ends)) count 0) (r .outline)
+        ∙ r .means .bodies
 
     pub bodies-placed : Placed (length bytes) count (scan .outline .params) (scan .outline .starts) (scan .outline .ends)
     bodies-placed = subst (λ (l : Outline). Placed (length bytes) count (l .params) (l .starts) (l .ends)) (sym (r .outline)) (r .means .placed)
 
-    module _ (m : mainFirst (headers (r .xs)) ≡ true) {k : Check}
-        (q : k ≡ bodiesAt (frameAt bytes count (scan .outline .params) (scan .outline .kinds) (scan .outline .starts) (scan .outline .ends)) count 0)
+    module _ (m : mainFirst s (headers (r .xs)) ≡ true) {k : Check}
+        (q : k ≡ bodiesAt (frameAt bytes s count (scan .outline .params) (scan .outline .kinds) (scan .outline .guards) (scan .outline .starts)
+        (scan .outline .ends)) count 0)
       where
-        pub bodies-refused : {f : Refusal} → k ≡ Refused f → judgedFrom (onward (rawsFrom count (drop 1 bytes)) bodiesFrom) ≡ judgedFrom (refused f)
-        bodies-refused {f} e = ap judgedFrom (bodies-left m) ∙ go (functionsFrom (headers (r .xs)) (r .xs)) (sym (bodies-are q) ∙ e)
+        pub bodies-refused : {f : Refusal} → k ≡ Refused f → judgedFrom s (onward (rawsFrom s count (drop 1 bytes)) (bodiesFrom s)) ≡ judgedFrom s
+            (refused f)
+        bodies-refused {f} e = ap (judgedFrom s) (bodies-left m) ∙ go (functionsFrom s (headers (r .xs)) (r .xs)) (sym (bodies-are q) ∙ e)
           where
-            go : (p : Parsed Program) → checkFrom p ≡ Refused f → judgedFrom p ≡ judgedFrom (refused f)
+            go : (p : Parsed Program) → checkFrom p ≡ Refused f → judgedFrom s p ≡ judgedFrom s (refused f)
             go (got P rest) z = absurd (numbers.refused (sym z))
-            go (refused g) z = ap (λ (x : Refusal). judgedFrom (refused x)) (refused-same z)
+            go (refused g) z = ap (λ (x : Refusal). judgedFrom s (refused x)) (refused-same z)
 
         pub all-passed : k ≡ Passed
-            → _≡_ {A = Judged} (record { check = Passed; outline = scan .outline }) (judgedFrom (onward (rawsFrom count (drop 1 bytes)) bodiesFrom))
-        all-passed e = go (functionsFrom (headers (r .xs)) (r .xs)) refl (sym (bodies-are q) ∙ e) ∙ sym (ap judgedFrom (bodies-left m))
+            → _≡_ {A = Judged} (record { check = Passed; outline = scan .outline })
+            (judgedFrom s (onward (rawsFrom s count (drop 1 bytes)) (bodiesFrom s)))
+        all-passed e = go (functionsFrom s (headers (r .xs)) (r .xs)) refl (sym (bodies-are q) ∙ e) ∙ sym (ap (judgedFrom s) (bodies-left m))
           where
-            go : (p : Parsed Program) → functionsFrom (headers (r .xs)) (r .xs) ≡ p → checkFrom p ≡ Passed
-                → _≡_ {A = Judged} (record { check = Passed; outline = scan .outline }) (judgedFrom p)
+            go : (p : Parsed Program) → functionsFrom s (headers (r .xs)) (r .xs) ≡ p → checkFrom p ≡ Passed
+                → _≡_ {A = Judged} (record { check = Passed; outline = scan .outline }) (judgedFrom s p)
             go (got P rest) w z = λ i. record { check = Passed; outline = (r .outline ∙ r .means .outline P rest w) i }
             go (refused g) w z = absurd (numbers.refused z)

@@ -1,5 +1,5 @@
 -- Laws of the table of expression bytes:
---   node-false, node-true, node-empty, node-if, node-op
+--   node-false, node-true, node-empty, node-empty-guard, node-if, node-op
 --                          what the bytes of constants, the if and the operations stand for
 --   node-param, node-call  what the bytes of parameters and calls stand for
 --   node-inv               a byte that stands for a node is the byte of that node
@@ -29,6 +29,10 @@ node-true = refl
 pub node-empty : nodeOf 0x02 ≡ node.Empty
 unfolding nodeOf
 node-empty = refl
+
+pub node-empty-guard : nodeOf 0x03 ≡ node.EmptyGuard
+unfolding nodeOf
+node-empty-guard = refl
 
 pub node-if : nodeOf 0x23 ≡ node.If
 unfolding nodeOf
@@ -60,21 +64,28 @@ unfolding nodeOf
 node-param {i} h =
     let b = 0x10 + i in
     let n : b - 0x10 ≡ i = omega arith in
-    simp (other b 0x00 (omega arith), other b 0x01 (omega arith), other b 0x02 (omega arith), within b 0x10 0x13 (omega arith) (omega arith), n)
+    let params = within b 0x10 0x13 (omega arith) (omega arith) in
+    simp (other b 0x00 (omega arith), other b 0x01 (omega arith), other b 0x02 (omega arith), other b 0x03 (omega arith), params, n)
 
 pub node-call : {g : ℕ} → g < 32 → nodeOf (0x80 + g) ≡ node.Call g
 unfolding nodeOf
 node-call {g} h =
     let b = 0x80 + g in
     let n : b - 0x80 ≡ g = omega arith in
-    let params = above b 0x10 0x13 (omega arith) (omega arith) in
-    let calls = within b 0x80 0x9F (omega arith) (omega arith) in
-    let head = other b 0x20 (omega arith) in
-    let tail = other b 0x21 (omega arith) in
-    let empty = other b 0x22 (omega arith) in
-    let branch = other b 0x23 (omega arith) in
-    let cons = other b 0x24 (omega arith) in
-    simp (other b 0x00 (omega arith), other b 0x01 (omega arith), other b 0x02 (omega arith), params, head, tail, empty, branch, cons, calls, n)
+    simp (
+      other b 0x00 (omega arith),
+      other b 0x01 (omega arith),
+      other b 0x02 (omega arith),
+      other b 0x03 (omega arith),
+      above b 0x10 0x13 (omega arith) (omega arith),
+      other b 0x20 (omega arith),
+      other b 0x21 (omega arith),
+      other b 0x22 (omega arith),
+      other b 0x23 (omega arith),
+      other b 0x24 (omega arith),
+      within b 0x80 0x9F (omega arith) (omega arith),
+      n,
+    )
 
 -- ---- From the node to the byte
 
@@ -83,6 +94,7 @@ abbrev pub ByteOf : Node → ℕ → Type 0
 ByteOf node.False b = b ≡ 0x00
 ByteOf node.True b = b ≡ 0x01
 ByteOf node.Empty b = b ≡ 0x02
+ByteOf node.EmptyGuard b = b ≡ 0x03
 ByteOf (node.Param i) b = (b ≡ 0x10 + i) × (i < 4)
 ByteOf node.Head b = b ≡ opByte hd
 ByteOf node.Tail b = b ≡ opByte tl
@@ -109,13 +121,14 @@ byte-of b =
     picked (eqb b 0x00) _ _ b (λ e. eqb-true b _ e) (λ e.
     picked (eqb b 0x01) _ _ b (λ e. eqb-true b _ e) (λ e.
     picked (eqb b 0x02) _ _ b (λ e. eqb-true b _ e) (λ e.
+    picked (eqb b 0x03) _ _ b (λ e. eqb-true b _ e) (λ e.
     picked (leb 0x10 b && leb b 0x13) _ _ b (λ e. offset b 0x10 0x13 e) (λ e.
     picked (eqb b 0x20) _ _ b (λ e. eqb-true b _ e) (λ e.
     picked (eqb b 0x21) _ _ b (λ e. eqb-true b _ e) (λ e.
     picked (eqb b 0x22) _ _ b (λ e. eqb-true b _ e) (λ e.
     picked (eqb b 0x23) _ _ b (λ e. eqb-true b _ e) (λ e.
     picked (eqb b 0x24) _ _ b (λ e. eqb-true b _ e) (λ e.
-    picked (leb 0x80 b && leb b 0x9F) _ _ b (λ e. offset b 0x80 0x9F e) (λ e. tt))))))))))
+    picked (leb 0x80 b && leb b 0x9F) _ _ b (λ e. offset b 0x80 0x9F e) (λ e. tt)))))))))))
 
 pub node-inv : (b : ℕ) (n : Node) → nodeOf b ≡ n → ByteOf n b
 node-inv b n e = rw e at (byte-of b)

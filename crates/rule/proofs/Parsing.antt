@@ -2,17 +2,17 @@
 --   not-got                a refusal is no reading
 --   got-inv                a reading has one outcome
 --   refused-inv            where something was read, a test that refuses has failed
---   demanded-inv           where something was read, the kind was the demanded one
---   demanded-met           a kind that is the demanded one refuses nothing
+--   allowed-inv            where something was read, a test whose failure refuses has held
+--   allowed-met            where it holds, nothing is refused
 --   onward-inv             going on: what was read first, and then
 use mathlib.Core.Path.{_≡_, refl, ap}
-use mathlib.Core.Bool.{Bool, true, false}
+use mathlib.Core.Bool.{Bool, true, false, not}
 use mathlib.Core.List.{List}
 use Prim.Native.Nat.{ℕ}
 use native.Mathlib.Omega.{arith}
+use lib.Dec.{T}
 use Rattle.refusal.specs.declared.Refusal.{Refusal}
-use Rattle.semantics.specs.Language.{Kind, truth, list}
-use Rattle.rule.specs.Reading.{Parsed, got, refused, onward, unlessFault, demanded}
+use Rattle.rule.specs.Reading.{Parsed, got, refused, onward, unlessFault}
 
 -- 0 of a reading, 1 of a refusal
 abbrev verdict : {A : Type 0} → Parsed A → ℕ
@@ -30,15 +30,13 @@ module _ {A : Type 0} where
   refused-inv true f p a rest e = absurd (not-got e)
   refused-inv false f p a rest e = (refl, e)
 
-  pub demanded-inv : (κ κ′ : Kind) (p : Parsed A) (a : A) (rest : List ℕ) → demanded κ κ′ p ≡ got a rest → (κ ≡ κ′) × (p ≡ got a rest)
-  demanded-inv truth truth p a rest e = (refl, e)
-  demanded-inv truth list p a rest e = absurd (not-got e)
-  demanded-inv list truth p a rest e = absurd (not-got e)
-  demanded-inv list list p a rest e = (refl, e)
+  pub allowed-inv : (t : Bool) (f : Refusal) (p : Parsed A) (a : A) (rest : List ℕ) → unlessFault (not t) f p ≡ got a rest → T t × (p ≡ got a rest)
+  allowed-inv true f p a rest e = (tt, e)
+  allowed-inv false f p a rest e = absurd (not-got e)
 
-  pub demanded-met : (κ κ′ : Kind) (p : Parsed A) → κ ≡ κ′ → demanded κ κ′ p ≡ p
-  demanded-met truth κ′ p e = rw (← e)
-  demanded-met list κ′ p e = rw (← e)
+  pub allowed-met : (t : Bool) (f : Refusal) (p : Parsed A) → T t → unlessFault (not t) f p ≡ p
+  allowed-met true f p h = refl
+  allowed-met false f p h = absurd h
 
 -- what was read first, and then
 pub data Onward {A B : Type 0} (p : Parsed A) (k : A → List ℕ → Parsed B) (b : B) (rest : List ℕ) : Type 0 where

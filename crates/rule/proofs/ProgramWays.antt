@@ -1,9 +1,10 @@
--- Laws of a program's length and function count, one for each way through the code:
---   program-empty, program-long        5
---   program-none, program-many         6
---   program-counted                    go on with the functions
---   answer-refused, answered           what the check answers of what was read
-use mathlib.Core.Path.{_≡_, ap}
+-- Laws of a program's length, function count and sort, one for each way through the code:
+--   program-empty, program-long                  5
+--   program-none, program-many, program-other    6
+--   program-counted                              go on with the functions
+--   answer-refused, answered                     what the check answers of what was read
+use mathlib.Core.Path.{_≡_, sym, ap, _∙_}
+use mathlib.Core.Bool.{Bool, true, false}
 use mathlib.Core.List.{List, []}
 use Prim.Native.Nat.{ℕ, _<_, _≤_}
 use lib.ListN.{length, getD, drop}
@@ -11,40 +12,54 @@ use borrow.Author.Tests.{eq-eqb, ne-eqb, lt-ltb, le-ltb}
 use Rattle.refusal.specs.declared.Refusal.{Refusal}
 use Rattle.refusal.specs.declared.Refusal.the-variants.{ProgramLength, FunctionCount}
 use Rattle.refusal.specs.declared.Check.the-variants as check
+use Rattle.semantics.specs.declared.Sort.{Sort}
+use Rattle.semantics.specs.declared.Sort.the-variants.{One}
 use Rattle.semantics.specs.Language.{Program}
+use Rattle.rule.specs.declared.Sorts.{Sorts}
 use Rattle.rule.specs.declared.Judged.{Judged}
 use Rattle.syntax.specs.Limits.{mostFunctions, mostBytes}
-use Rattle.rule.specs.Reading.{Parsed, refused, onward, rawsFrom, bodiesFrom, programFrom, programCheck}
+use Rattle.syntax.specs.Bytes.{countIn}
+use Rattle.rule.specs.Reading.{Parsed, refused, onward, rawsFrom, bodiesFrom, takes, programSort, programFor, programCheck}
 use Rattle.rule.specs.Outline.{outlineOf, outlineFrom, judgedFrom}
+use Rattle.rule.proofs.Scanning.{no-outline}
 
-module _ (bytes : List ℕ) where
-  pub program-empty : length bytes ≡ 0 → programFrom bytes ≡ refused ProgramLength
-  unfolding programFrom
+module _ (sorts : Sorts) (bytes : List ℕ) where
+  pub program-empty : length bytes ≡ 0 → programFor sorts bytes ≡ refused ProgramLength
+  unfolding programFor
   program-empty h = simp (eq-eqb _ _ h)
 
   module _ (some : length bytes ≡ 0 → ⊥) where
-    pub program-long : mostBytes < length bytes → programFrom bytes ≡ refused ProgramLength
-    unfolding programFrom
+    pub program-long : mostBytes < length bytes → programFor sorts bytes ≡ refused ProgramLength
+    unfolding programFor
     program-long h = simp (ne-eqb _ _ some, lt-ltb _ _ h)
 
-    module _ (short : length bytes ≤ mostBytes) where
-      pub program-none : getD bytes 0 0 ≡ 0 → programFrom bytes ≡ refused FunctionCount
-      unfolding programFrom
-      program-none h = simp (ne-eqb _ _ some, le-ltb _ _ short, eq-eqb _ _ h)
+    module _ (short : length bytes ≤ mostBytes) {count : ℕ} (counted : count ≡ countIn (getD bytes 0 0)) where
+      pub program-none : count ≡ 0 → programFor sorts bytes ≡ refused FunctionCount
+      unfolding programFor
+      program-none h = simp (ne-eqb _ _ some, le-ltb _ _ short, sym counted, eq-eqb _ _ h)
 
-      module _ (one : getD bytes 0 0 ≡ 0 → ⊥) where
-        pub program-many : mostFunctions < getD bytes 0 0 → programFrom bytes ≡ refused FunctionCount
-        unfolding programFrom
-        program-many h = simp (ne-eqb _ _ some, le-ltb _ _ short, ne-eqb _ _ one, lt-ltb _ _ h)
+      module _ (one : count ≡ 0 → ⊥) where
+        pub program-many : mostFunctions < count → programFor sorts bytes ≡ refused FunctionCount
+        unfolding programFor
+        program-many h = simp (ne-eqb _ _ some, le-ltb _ _ short, sym counted, ne-eqb _ _ one, lt-ltb _ _ h)
 
-        pub program-counted : getD bytes 0 0 ≤ mostFunctions → programFrom bytes ≡ onward (rawsFrom (getD bytes 0 0) (drop 1 bytes)) bodiesFrom
-        unfolding programFrom
-        program-counted h = simp (ne-eqb _ _ some, le-ltb _ _ short, ne-eqb _ _ one, le-ltb _ _ h)
+        module _ (few : count ≤ mostFunctions) {s : Sort} (sorted : s ≡ programSort bytes) {b : Bool} (t : b ≡ takes sorts s) where
+          pub program-other : b ≡ false → programFor sorts bytes ≡ refused FunctionCount
+          unfolding programFor
+          program-other e = simp (ne-eqb _ _ some, le-ltb _ _ short, sym counted, ne-eqb _ _ one, le-ltb _ _ few, sym sorted, sym t ∙ e)
 
-pub answer-refused : (r : Judged) {f : Refusal} → (r .check ≡ check.Refused f) × (r .outline ≡ outlineOf []) → r ≡ judgedFrom (refused f)
-answer-refused r e = λ i. record { check = e .0 i; outline = e .1 i }
+          pub program-counted : b ≡ true → programFor sorts bytes ≡ onward (rawsFrom s count (drop 1 bytes)) (bodiesFrom s)
+          unfolding programFor
+          program-counted e = simp (ne-eqb _ _ some, le-ltb _ _ short, sym counted, ne-eqb _ _ one, le-ltb _ _ few, sym sorted, sym t ∙ e)
 
-pub answered : (bytes : List ℕ) (r : Judged) {p : Parsed Program} → programFrom bytes ≡ p → r ≡ judgedFrom p
-    → (r .check ≡ programCheck bytes) × (r .outline ≡ outlineFrom (programFrom bytes))
+pub answer-refused : (s : Sort) (r : Judged) {f : Refusal} → (r .check ≡ check.Refused f) × (r .outline ≡ outlineOf One [])
+    → r ≡ judgedFrom s (refused f)
+answer-refused s r e = λ i. record { check = e .0 i; outline = (e .1 ∙ no-outline s) i }
+
+pub answered : (sorts : Sorts) (bytes : List ℕ) (r : Judged) {s : Sort} {p : Parsed Program} → programFor sorts bytes ≡ p → s ≡ programSort bytes
+    → r ≡ judgedFrom s p
+    → (r .check ≡ programCheck sorts bytes) × (r .outline ≡ outlineFrom (programSort bytes) (programFor sorts bytes))
 unfolding programCheck
-answered bytes r e q = rw e (ap (λ (x : Judged). x .check) q, ap (λ (x : Judged). x .outline) q)
+answered sorts bytes r {p = p} e sorted q =
+    let same = q ∙ ap (λ (z : Sort). judgedFrom z p) sorted in
+    rw e (ap (λ (x : Judged). x .check) same, ap (λ (x : Judged). x .outline) same)

@@ -1,8 +1,8 @@
--- 'What is refused', 5 to 17, of document 01: any bytes are read as a program, or refused by the first number
+-- 'What is refused', 5 to 17, of documents 01 and 02: any bytes are read as a program, or refused by the first number
 -- that applies. 'In 7 to 9 the first function at fault decides; in 12 to 17 the first function, and in it the
 -- first byte'; at one byte the lowest number.
 use Prim.Native.Nat.{ℕ, zero, suc}
-use mathlib.Core.Bool.{Bool, true, false, not, _||_, cond}
+use mathlib.Core.Bool.{Bool, true, false, not, _&&_, _||_, cond}
 use mathlib.Core.List.{List, [], _∷_, map}
 use mathlib.Core.Option.{Option, none, some}
 use lib.ListN.{length, getElem?, getD, take, drop}
@@ -12,14 +12,20 @@ use Rattle.refusal.specs.declared.Refusal.the-variants.{ProgramLength, Function
 use Rattle.refusal.specs.declared.Check.{Check}
 use Rattle.refusal.specs.declared.Check.the-variants as check
 use Rattle.trace.specs.{bitOf}
-use Rattle.semantics.specs.Language.{Kind, truth, list, Op, hd, tl, null, Expr, constant, empty, param, op, ifte, call, Args, noArgs, arg, Function, Program, opKind}
+use Rattle.semantics.specs.declared.Contact.the-variants.{Ram, Guard}
+use Rattle.semantics.specs.declared.Sort.{Sort}
+use Rattle.semantics.specs.declared.Sort.the-variants.{One, Two}
+use Rattle.semantics.specs.Language.{Kind, truth, list, Op, hd, tl, null, Expr, constant, empty, param, op, ifte, call, Args, noArgs, arg, Function, Program, mainParams}
+use Rattle.semantics.specs.Language.{Demand, only, allows, opAllowed, operandDemand}
 use Rattle.syntax.specs.declared.Node.{Node}
 use Rattle.syntax.specs.declared.Node.the-variants as node
 use Rattle.syntax.specs.declared.Header.{Header}
 use Rattle.syntax.specs.declared.HeaderRead.{HeaderRead}
 use Rattle.syntax.specs.declared.HeaderRead.the-variants.{Found, Refused}
-use Rattle.syntax.specs.Limits.{mostFunctions, mostDepth, mostBytes}
-use Rattle.syntax.specs.Bytes.{headerOf, nodeOf}
+use Rattle.syntax.specs.Limits.{mostDepth, mostBytes}
+use Rattle.syntax.specs.Bytes.{sortIn, countIn, countFault, headerBytes, headerOf, nodeOf}
+use Rattle.rule.specs.declared.Sorts.{Sorts}
+use Rattle.rule.specs.declared.Sorts.the-variants.{Both, Only}
 
 -- what was read and the bytes after it, or the refusal
 pub data Parsed (A : Type 0) : Type 0 where
@@ -38,20 +44,20 @@ unlessFault false f p = p
 
 -- ---- Headers; their refusals, 7 to 9, are those of `headerOf`
 
--- the kind that bit i of a kinds byte says
-abbrev pub kindAt : ℕ → ℕ → Kind
-kindAt kinds i = cond (bitOf i kinds) list truth
+-- the kind that bits i of a kinds byte and of a guard byte say
+abbrev pub kindAt : ℕ → ℕ → ℕ → Kind
+kindAt kinds guard i = cond (bitOf i kinds) (list (cond (bitOf i guard) Guard Ram)) truth
 
--- the kinds that n bits of a kinds byte say, from bit i on
-unfoldable pub kindsFrom : ℕ → ℕ → ℕ → List Kind
-kindsFrom kinds i zero = []
-kindsFrom kinds i (suc n) = kindAt kinds i ∷ kindsFrom kinds (suc i) n
+-- the kinds that n bits of both say, from bit i on
+unfoldable pub kindsFrom : ℕ → ℕ → ℕ → ℕ → List Kind
+kindsFrom kinds guard i zero = []
+kindsFrom kinds guard i (suc n) = kindAt kinds guard i ∷ kindsFrom kinds guard (suc i) n
 
 abbrev pub paramKinds : Header → List Kind
-paramKinds h = kindsFrom (h .kinds) 0 (h .params)
+paramKinds h = kindsFrom (h .kinds) (h .guard) 0 (h .params)
 
 abbrev pub resultKind : Header → Kind
-resultKind h = kindAt (h .kinds) 4
+resultKind h = kindAt (h .kinds) (h .guard) 4
 
 -- a function whose body is not read yet
 pub record Raw : Type 0 where
@@ -59,73 +65,81 @@ pub record Raw : Type 0 where
   pub body : List ℕ
 
 -- the header and body at the front of some bytes
-abbrev pub rawFrom : HeaderRead → List ℕ → Parsed Raw
-rawFrom (Refused f) bs = refused f
-rawFrom (Found h) bs = got (record { header = h; body = take (h .length) (drop 4 bs) }) (drop (h .length) (drop 4 bs))
+abbrev pub rawFrom : Sort → HeaderRead → List ℕ → Parsed Raw
+rawFrom s (Refused f) bs = refused f
+rawFrom s (Found h) bs =
+    let body = drop (headerBytes s) bs in
+    got (record { header = h; body = take (h .length) body }) (drop (h .length) body)
 
-unfoldable pub rawsFrom : ℕ → List ℕ → Parsed (List Raw)
-rawsFrom zero bs = got [] bs
-rawsFrom (suc n) bs = onward (rawFrom (headerOf bs) bs) (λ x rest. onward (rawsFrom n rest) (λ xs rest′. got (x ∷ xs) rest′))
+unfoldable pub rawsFrom : Sort → ℕ → List ℕ → Parsed (List Raw)
+rawsFrom s zero bs = got [] bs
+rawsFrom s (suc n) bs = onward (rawFrom s (headerOf s bs) bs) (λ x rest. onward (rawsFrom s n rest) (λ xs rest′. got (x ∷ xs) rest′))
 
 -- ---- Expressions: 12 to 16
 
-abbrev pub sameKind : Kind → Kind → Bool
-sameKind truth truth = true
-sameKind truth list = false
-sameKind list truth = false
-sameKind list list = true
-
 -- 16: 'the node's kind is not the one its place demands'
-abbrev pub demanded : {A : Type 0} → Kind → Kind → Parsed A → Parsed A
-demanded demand kind p = unlessFault (not (sameKind demand kind)) WrongKind p
+abbrev pub demanded : {A : Type 0} → Demand → Kind → Parsed A → Parsed A
+demanded demand kind p = unlessFault (not (allows demand kind)) WrongKind p
+
+-- a reader of the expression at a place that demands something
+abbrev pub Reader : Type 0
+Reader = Demand → List ℕ → Parsed Expr
 
 -- the arguments of a call, each at the kind of its parameter
-unfoldable pub argsFrom : (Kind → List ℕ → Parsed Expr) → List Kind → List ℕ → Parsed Args
+unfoldable pub argsFrom : Reader → List Kind → List ℕ → Parsed Args
 argsFrom read [] bs = got noArgs bs
-argsFrom read (κ ∷ κs) bs = onward (read κ bs) (λ e rest. onward (argsFrom read κs rest) (λ xs rest′. got (arg e xs) rest′))
+argsFrom read (κ ∷ κs) bs = onward (read (only κ) bs) (λ e rest. onward (argsFrom read κs rest) (λ xs rest′. got (arg e xs) rest′))
+
+-- 15: 0x03 in a program of one contact
+abbrev pub guardEmptyFrom : Sort → Demand → List ℕ → Parsed Expr
+guardEmptyFrom One demand bs = refused UnknownByte
+guardEmptyFrom Two demand bs = demanded demand (list Guard) (got (empty Guard) bs)
 
 -- 15: a parameter or a function that is absent
-abbrev pub paramFrom : Option Kind → Kind → ℕ → List ℕ → Parsed Expr
+abbrev pub paramFrom : Option Kind → Demand → ℕ → List ℕ → Parsed Expr
 paramFrom none demand i bs = refused UnknownByte
 paramFrom (some kind) demand i bs = demanded demand kind (got (param i) bs)
 
-abbrev pub callFrom : Option Header → (Kind → List ℕ → Parsed Expr) → Kind → ℕ → List ℕ → Parsed Expr
+abbrev pub callFrom : Option Header → Reader → Demand → ℕ → List ℕ → Parsed Expr
 callFrom none read demand g bs = refused UnknownByte
 callFrom (some h) read demand g bs =
     demanded demand (resultKind h) (onward (argsFrom read (paramKinds h) bs) (λ xs rest. got (call g xs) rest))
 
-abbrev pub opFrom : Op → (Kind → List ℕ → Parsed Expr) → Kind → List ℕ → Parsed Expr
-opFrom p read demand bs = demanded demand (opKind p) (onward (read list bs) (λ e rest. got (op p e) rest))
+-- hd, tl and null; 16: where it may not stand
+abbrev pub opFrom : Op → Reader → Demand → List ℕ → Parsed Expr
+opFrom p read demand bs =
+    unlessFault (not (opAllowed p demand)) WrongKind (onward (read (operandDemand p demand) bs) (λ e rest. got (op p e) rest))
 
 -- an if never meets 16: it hands its own demand to both branches
-abbrev pub ifFrom : (Kind → List ℕ → Parsed Expr) → Kind → List ℕ → Parsed Expr
+abbrev pub ifFrom : Reader → Demand → List ℕ → Parsed Expr
 ifFrom read demand bs =
-    onward (read truth bs)
+    onward (read (only truth) bs)
     (λ c rest. onward (read demand rest)
     (λ a rest′. onward (read demand rest′) (λ b rest″. got (ifte c a b) rest″)))
 
 -- a node, its operands read by `read`; H are the headers of the program, Γ the kinds of the parameters;
 -- 14: 'the byte is 0x24', 15: 'the byte is not in the table'
-abbrev pub nodeFrom : List Header → List Kind → (Kind → List ℕ → Parsed Expr) → Kind → Node → List ℕ → Parsed Expr
-nodeFrom H Γ read demand node.False bs = demanded demand truth (got (constant false) bs)
-nodeFrom H Γ read demand node.True bs = demanded demand truth (got (constant true) bs)
-nodeFrom H Γ read demand node.Empty bs = demanded demand list (got empty bs)
-nodeFrom H Γ read demand (node.Param i) bs = paramFrom (getElem? Γ i) demand i bs
-nodeFrom H Γ read demand node.Head bs = opFrom hd read demand bs
-nodeFrom H Γ read demand node.Tail bs = opFrom tl read demand bs
-nodeFrom H Γ read demand node.Null bs = opFrom null read demand bs
-nodeFrom H Γ read demand node.If bs = ifFrom read demand bs
-nodeFrom H Γ read demand node.Cons bs = refused ListConstructor
-nodeFrom H Γ read demand (node.Call g) bs = callFrom (getElem? H g) read demand g bs
-nodeFrom H Γ read demand node.Unknown bs = refused UnknownByte
+abbrev pub nodeFrom : Sort → List Header → List Kind → Reader → Demand → Node → List ℕ → Parsed Expr
+nodeFrom s H Γ read demand node.False bs = demanded demand truth (got (constant false) bs)
+nodeFrom s H Γ read demand node.True bs = demanded demand truth (got (constant true) bs)
+nodeFrom s H Γ read demand node.Empty bs = demanded demand (list Ram) (got (empty Ram) bs)
+nodeFrom s H Γ read demand node.EmptyGuard bs = guardEmptyFrom s demand bs
+nodeFrom s H Γ read demand (node.Param i) bs = paramFrom (getElem? Γ i) demand i bs
+nodeFrom s H Γ read demand node.Head bs = opFrom hd read demand bs
+nodeFrom s H Γ read demand node.Tail bs = opFrom tl read demand bs
+nodeFrom s H Γ read demand node.Null bs = opFrom null read demand bs
+nodeFrom s H Γ read demand node.If bs = ifFrom read demand bs
+nodeFrom s H Γ read demand node.Cons bs = refused ListConstructor
+nodeFrom s H Γ read demand (node.Call g) bs = callFrom (getElem? H g) read demand g bs
+nodeFrom s H Γ read demand node.Unknown bs = refused UnknownByte
 
--- an expression of the kind that its place demands, at most d nodes deep;
+-- an expression that meets what its place demands, at most d nodes deep, in a program of a sort;
 -- 12: 'the body ends where a node is due', 13: 'a node would be the 65th in depth'
-unfoldable pub exprFrom : List Header → List Kind → ℕ → Kind → List ℕ → Parsed Expr
-exprFrom H Γ zero demand [] = refused BodyEnds
-exprFrom H Γ zero demand (b ∷ bs) = refused TooDeep
-exprFrom H Γ (suc d) demand [] = refused BodyEnds
-exprFrom H Γ (suc d) demand (b ∷ bs) = nodeFrom H Γ (λ κ rest. exprFrom H Γ d κ rest) demand (nodeOf b) bs
+unfoldable pub exprFrom : Sort → List Header → List Kind → ℕ → Reader
+exprFrom s H Γ zero demand [] = refused BodyEnds
+exprFrom s H Γ zero demand (b ∷ bs) = refused TooDeep
+exprFrom s H Γ (suc d) demand [] = refused BodyEnds
+exprFrom s H Γ (suc d) demand (b ∷ bs) = nodeFrom s H Γ (λ δ rest. exprFrom s H Γ d δ rest) demand (nodeOf b) bs
 
 -- ---- Functions: 17
 
@@ -135,55 +149,69 @@ wholeBody h (got e []) = got (record { params = paramKinds h; result = resultKin
 wholeBody h (got e (b ∷ bs)) = refused BytesAfterExpression
 wholeBody h (refused f) = refused f
 
-abbrev pub functionFrom : List Header → Raw → Parsed Function
-functionFrom H x = wholeBody (x .header) (exprFrom H (paramKinds (x .header)) mostDepth (resultKind (x .header)) (x .body))
+abbrev pub functionFrom : Sort → List Header → Raw → Parsed Function
+functionFrom s H x = wholeBody (x .header) (exprFrom s H (paramKinds (x .header)) mostDepth (only (resultKind (x .header))) (x .body))
 
-unfoldable pub functionsFrom : List Header → List Raw → Parsed Program
-functionsFrom H [] = got [] []
-functionsFrom H (x ∷ xs) = onward (functionFrom H x) (λ f rest. onward (functionsFrom H xs) (λ fs rest′. got (f ∷ fs) rest′))
+unfoldable pub functionsFrom : Sort → List Header → List Raw → Parsed Program
+functionsFrom s H [] = got [] []
+functionsFrom s H (x ∷ xs) = onward (functionFrom s H x) (λ f rest. onward (functionsFrom s H xs) (λ fs rest′. got (f ∷ fs) rest′))
 
 -- ---- Programs: 5, 6, 10, 11
 
 -- 11: 'function 0 is not of main's kind'
-abbrev pub mainKinds : List Kind → Kind → Bool
-mainKinds [] result = false
-mainKinds (truth ∷ κs) result = false
-mainKinds (list ∷ []) result = sameKind result truth
-mainKinds (list ∷ κ ∷ κs) result = false
+abbrev pub sameKinds : List Kind → List Kind → Bool
+sameKinds [] [] = true
+sameKinds [] (κ ∷ κs) = false
+sameKinds (κ ∷ κs) [] = false
+sameKinds (κ ∷ κs) (κ′ ∷ κs′) = allows (only κ) κ′ && sameKinds κs κs′
 
-abbrev pub mainFirst : List Header → Bool
-mainFirst [] = false
-mainFirst (h ∷ hs) = mainKinds (paramKinds h) (resultKind h)
+abbrev pub mainFirst : Sort → List Header → Bool
+mainFirst s [] = false
+mainFirst s (h ∷ hs) = sameKinds (mainParams s) (paramKinds h) && allows (only truth) (resultKind h)
 
 abbrev pub headers : List Raw → List Header
 headers xs = map (λ (x : Raw). x .header) xs
 
 -- 10: 'bytes remain after the last function'
-abbrev pub bodiesFrom : List Raw → List ℕ → Parsed Program
-bodiesFrom xs rest =
+abbrev pub bodiesFrom : Sort → List Raw → List ℕ → Parsed Program
+bodiesFrom s xs rest =
     unlessFault (not (eqb (length rest) 0)) BytesAfterFunctions
-    (unlessFault (not (mainFirst (headers xs))) MainKind
-    (functionsFrom (headers xs) xs))
+    (unlessFault (not (mainFirst s (headers xs))) MainKind
+    (functionsFrom s (headers xs) xs))
 
--- 5: 'the program is empty or longer than 4,096 bytes', 6: 'the function count is 0 or above 32'
-unfoldable pub programFrom : List ℕ → Parsed Program
-programFrom bs =
+-- whether programs of a sort are taken: of both where the program alone is checked, else of that of the traces or the
+-- format given
+abbrev pub takes : Sorts → Sort → Bool
+takes Both s = true
+takes (Only One) One = true
+takes (Only One) Two = false
+takes (Only Two) One = false
+takes (Only Two) Two = true
+
+-- the sort of a program's bytes
+abbrev pub programSort : List ℕ → Sort
+programSort bs = sortIn (getD bs 0 0)
+
+-- 5: 'the program is empty or longer than 4,096 bytes', 6: the function count, and 'a program of the wrong sort for the format or
+-- the traces given'
+unfoldable pub programFor : Sorts → List ℕ → Parsed Program
+programFor sorts bs =
     unlessFault (eqb (length bs) 0 || ltb mostBytes (length bs)) ProgramLength
-    (unlessFault (eqb (getD bs 0 0) 0 || ltb mostFunctions (getD bs 0 0)) FunctionCount
-    (onward (rawsFrom (getD bs 0 0) (drop 1 bs)) bodiesFrom))
+    (unlessFault (countFault (getD bs 0 0) || not (takes sorts (programSort bs))) FunctionCount
+    (onward (rawsFrom (programSort bs) (countIn (getD bs 0 0)) (drop 1 bs)) (bodiesFrom (programSort bs))))
 
--- the program that bytes are read as; of refused bytes, one of no functions
+-- the program that bytes of either sort are read as; of refused bytes, one of no functions
 abbrev pub programIn : Parsed Program → Program
 programIn (got P rest) = P
 programIn (refused f) = []
 
 abbrev pub programOf : List ℕ → Program
-programOf bs = programIn (programFrom bs)
+programOf bs = programIn (programFor Both bs)
 
 -- the check of a program, 5 to 17
 abbrev pub checkFrom : {A : Type 0} → Parsed A → Check
 checkFrom (got a rest) = check.Passed
 checkFrom (refused f) = check.Refused f
 
-unfoldable pub programCheck : List ℕ → Check
-programCheck bs = checkFrom (programFrom bs)
+unfoldable pub programCheck : Sorts → List ℕ → Check
+programCheck sorts bs = checkFrom (programFor sorts bs)

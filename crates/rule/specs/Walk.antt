@@ -1,8 +1,8 @@
--- A mirror of the code: expressions checked by positions in a body, with kinds as bits; functions by their places.
+-- A mirror of the code: expressions checked by positions in a body, with kinds as numbers; functions by their places.
 -- What a walk comes to is one number: a place of the body, or a refusal, which is above all places.
 -- No reader need believe it: proofs/ shows that it comes to what Reading says.
 use Prim.Native.Nat.{ℕ, zero, suc, _+_, _-_, _<_, _≤_}
-use mathlib.Core.Bool.{Bool, true, false, not, cond}
+use mathlib.Core.Bool.{Bool, not, _&&_, _||_, cond}
 use mathlib.Core.List.{List, [], _∷_, map}
 use lib.Dec.{ltb, leb, eqb}
 use lib.ListN.{length, getD, take, drop}
@@ -12,18 +12,35 @@ use Rattle.refusal.specs.declared.Check.{Check}
 use Rattle.refusal.specs.declared.Check.the-variants as check
 use Rattle.refusal.specs.{numberOf, checkOf, _then_}
 use Rattle.trace.specs.{bitOf}
+use Rattle.semantics.specs.declared.Sort.{Sort}
+use Rattle.semantics.specs.declared.Sort.the-variants.{One, Two}
+use Rattle.semantics.specs.Language.{Demand, only, anyList}
 use Rattle.syntax.specs.declared.Node.{Node}
 use Rattle.syntax.specs.declared.Node.the-variants as node
 use Rattle.rule.specs.declared.Outline.{Outline}
 use Rattle.rule.specs.declared.functions.Scan.{Scan}
 use Rattle.syntax.specs.Limits.{mostFunctions, mostParams, mostDepth, mostBytes}
 use Rattle.rule.specs.Form.{padded}
-use Rattle.syntax.specs.Bytes.{nodeOf}
+use Rattle.syntax.specs.Bytes.{headerBytes, nodeOf}
+use Rattle.syntax.specs.Kinds.{truthKind, ramKind, guardKind, kindNumber, kindBy}
 use Rattle.rule.specs.Reading.{Parsed, got, refused, Raw}
 use Rattle.rule.specs.Outline.{outlineOf}
 
-abbrev pub same : Bool → Bool → Bool
-same a b = cond a b (not b)
+-- what a place demands as a number: that of a kind, or this one for a list of either contact
+abbrev pub anyListDemand : ℕ
+anyListDemand = 3
+
+abbrev pub demandNumber : Demand → ℕ
+demandNumber (only κ) = kindNumber κ
+demandNumber anyList = anyListDemand
+
+-- whether a node of a kind may stand there
+abbrev pub meets : ℕ → ℕ → Bool
+meets demand kind = eqb demand kind || (eqb demand anyListDemand && not (eqb kind truthKind))
+
+-- the kind at place i of a header
+abbrev pub kindOf : ℕ → ℕ → ℕ → ℕ
+kindOf kinds guard i = kindBy (bitOf i kinds) (bitOf i guard)
 
 abbrev pub atMostFour : ℕ → ℕ
 atMostFour count = cond (ltb count 5) count 4
@@ -39,51 +56,84 @@ stop f = firstStop + numberOf f
 abbrev pub ended : ℕ → ℕ
 ended at = cond (ltb at firstStop) (stop BodyEnds) at
 
--- a node of a kind at a place that demands one
-abbrev pub ofDemand : Bool → Bool → ℕ → ℕ
-ofDemand demand list w = cond (same demand list) w (stop WrongKind)
+-- a node of a kind at a place that demands something
+abbrev pub ofDemand : ℕ → ℕ → ℕ → ℕ
+ofDemand demand kind w = cond (meets demand kind) w (stop WrongKind)
 
-unfoldable pub leafWalked : Bool → Bool → ℕ → ℕ
-leafWalked demand list next = ofDemand demand list next
+unfoldable pub leafWalked : ℕ → ℕ → ℕ → ℕ
+leafWalked demand kind next = ofDemand demand kind next
 
-unfoldable pub paramWalked : ℕ → ℕ → Bool → ℕ → ℕ → ℕ
-paramWalked count kinds demand i next = cond (ltb i count) (leafWalked demand (bitOf i kinds) next) (stop UnknownByte)
+unfoldable pub paramWalked : ℕ → ℕ → ℕ → ℕ → ℕ → ℕ → ℕ
+paramWalked count kinds guard demand i next = cond (ltb i count) (leafWalked demand (kindOf kinds guard i) next) (stop UnknownByte)
+
+-- the empty guard list, where there are two contacts
+unfoldable pub guardEmptyWalked : ℕ → ℕ → ℕ → ℕ
+guardEmptyWalked contacts demand next = cond (eqb contacts 2) (leafWalked demand guardKind next) (stop UnknownByte)
 
 -- what a check of a body does not change
 pub record Frame : Type 0 where
   pub body : List ℕ
+  pub contacts : ℕ
   pub functions : ℕ
   pub params : List ℕ
   pub kinds : List ℕ
+  pub guards : List ℕ
   pub ownParams : ℕ
   pub ownKinds : ℕ
+  pub ownGuard : ℕ
 
-abbrev pub frame : List ℕ → ℕ → List ℕ → List ℕ → ℕ → ℕ → Frame
-frame body functions params kinds ownParams ownKinds =
-    record { body = body; functions = functions; params = params; kinds = kinds; ownParams = ownParams; ownKinds = ownKinds }
+-- how many contacts a program of a sort has
+abbrev pub contactsOf : Sort → ℕ
+contactsOf One = 1
+contactsOf Two = 2
+
+abbrev pub frame : List ℕ → ℕ → ℕ → List ℕ → List ℕ → List ℕ → ℕ → ℕ → ℕ → Frame
+frame body contacts functions params kinds guards ownParams ownKinds ownGuard =
+    record {
+      body = body;
+      contacts = contacts;
+      functions = functions;
+      params = params;
+      kinds = kinds;
+      guards = guards;
+      ownParams = ownParams;
+      ownKinds = ownKinds;
+      ownGuard = ownGuard;
+    }
 
 -- an array of the code with headers: from 0 on the functions' counts of parameters, from `kindsPlace` on their kinds
--- bytes, then how many functions there are, and the count and the kinds byte of the body's function
+-- bytes, from `guardsPlace` on their guard bytes, then how many functions there are, the count, the kinds byte and the guard byte
+-- of the body's function, and how many contacts
 abbrev pub kindsPlace : ℕ
 kindsPlace = 32
 
+abbrev pub guardsPlace : ℕ
+guardsPlace = 64
+
 abbrev pub functionsPlace : ℕ
-functionsPlace = 64
+functionsPlace = 96
 
 abbrev pub ownParamsPlace : ℕ
-ownParamsPlace = 65
+ownParamsPlace = 97
 
 abbrev pub ownKindsPlace : ℕ
-ownKindsPlace = 66
+ownKindsPlace = 98
+
+abbrev pub ownGuardPlace : ℕ
+ownGuardPlace = 99
+
+abbrev pub contactsPlace : ℕ
+contactsPlace = 100
 
 abbrev pub headsLength : ℕ
-headsLength = 67
+headsLength = 101
 
 -- the frame that such an array has
 abbrev pub frameIn : List ℕ → List ℕ → Frame
 frameIn body heads =
-    frame body (getD heads functionsPlace 0) (take mostFunctions heads) (take mostFunctions (drop kindsPlace heads))
-    (getD heads ownParamsPlace 0) (getD heads ownKindsPlace 0)
+    frame body (getD heads contactsPlace 0) (getD heads functionsPlace 0)
+    (take mostFunctions heads) (take mostFunctions (drop kindsPlace heads)) (take mostFunctions (drop guardsPlace heads))
+    (getD heads ownParamsPlace 0) (getD heads ownKindsPlace 0) (getD heads ownGuardPlace 0)
 
 -- a frame within the limits of a program
 pub record Sized (F : Frame) : Type 0 where
@@ -92,45 +142,59 @@ pub record Sized (F : Frame) : Type 0 where
   pub own : F .ownParams ≤ mostParams
 
 -- so many arguments, from argument i on
-unfoldable pub argsWalked : (Bool → ℕ → ℕ) → ℕ → ℕ → ℕ → ℕ → ℕ
-argsWalked walk kinds zero i at = at
-argsWalked walk kinds (suc n) i at = argsWalked walk kinds n (i + 1) (walk (bitOf i kinds) at)
+unfoldable pub argsWalked : (ℕ → ℕ → ℕ) → ℕ → ℕ → ℕ → ℕ → ℕ → ℕ
+argsWalked walk kinds guard zero i at = at
+argsWalked walk kinds guard (suc n) i at = argsWalked walk kinds guard n (i + 1) (walk (kindOf kinds guard i) at)
 
-abbrev pub armsWalked : (Bool → ℕ → ℕ) → Bool → ℕ → ℕ
-armsWalked walk demand at = walk demand (walk demand (walk false at))
+abbrev pub armsWalked : (ℕ → ℕ → ℕ) → ℕ → ℕ → ℕ
+armsWalked walk demand at = walk demand (walk demand (walk truthKind at))
 
-abbrev pub callWalked : Frame → (Bool → ℕ → ℕ) → Bool → ℕ → ℕ → ℕ
+abbrev pub callWalked : Frame → (ℕ → ℕ → ℕ) → ℕ → ℕ → ℕ → ℕ
 callWalked F walk demand at g =
+    let kinds = getD (F .kinds) g 0 in
+    let guard = getD (F .guards) g 0 in
     cond (leb (F .functions) g) (stop UnknownByte)
-    (ofDemand demand (bitOf 4 (getD (F .kinds) g 0)) (argsWalked walk (getD (F .kinds) g 0) (atMostFour (getD (F .params) g 0)) 0 at))
+    (ofDemand demand (kindOf kinds guard 4) (argsWalked walk kinds guard (atMostFour (getD (F .params) g 0)) 0 at))
 
-abbrev pub nodeWalked : Frame → (Bool → ℕ → ℕ) → Bool → ℕ → Node → ℕ
-nodeWalked F walk demand at node.False = leafWalked demand false at
-nodeWalked F walk demand at node.True = leafWalked demand false at
-nodeWalked F walk demand at node.Empty = leafWalked demand true at
-nodeWalked F walk demand at (node.Param i) = paramWalked (F .ownParams) (F .ownKinds) demand i at
-nodeWalked F walk demand at node.Head = ofDemand demand false (walk true at)
-nodeWalked F walk demand at node.Tail = ofDemand demand true (walk true at)
-nodeWalked F walk demand at node.Null = ofDemand demand false (walk true at)
+-- hd or null: a Bool, of a list of either contact
+abbrev pub readWalked : (ℕ → ℕ → ℕ) → ℕ → ℕ → ℕ
+readWalked walk demand at = ofDemand demand truthKind (walk anyListDemand at)
+
+-- tl: a list of the contact that is demanded
+abbrev pub tailWalked : (ℕ → ℕ → ℕ) → ℕ → ℕ → ℕ
+tailWalked walk demand at = cond (eqb demand truthKind) (stop WrongKind) (walk demand at)
+
+abbrev pub nodeWalked : Frame → (ℕ → ℕ → ℕ) → ℕ → ℕ → Node → ℕ
+nodeWalked F walk demand at node.False = leafWalked demand truthKind at
+nodeWalked F walk demand at node.True = leafWalked demand truthKind at
+nodeWalked F walk demand at node.Empty = leafWalked demand ramKind at
+nodeWalked F walk demand at node.EmptyGuard = guardEmptyWalked (F .contacts) demand at
+nodeWalked F walk demand at (node.Param i) = paramWalked (F .ownParams) (F .ownKinds) (F .ownGuard) demand i at
+nodeWalked F walk demand at node.Head = readWalked walk demand at
+nodeWalked F walk demand at node.Tail = tailWalked walk demand at
+nodeWalked F walk demand at node.Null = readWalked walk demand at
 nodeWalked F walk demand at node.If = armsWalked walk demand at
 nodeWalked F walk demand at node.Cons = stop ListConstructor
 nodeWalked F walk demand at (node.Call g) = callWalked F walk demand at g
 nodeWalked F walk demand at node.Unknown = stop UnknownByte
 
 -- the expression at a place, with so much depth left; from a refusal on, that refusal
-unfoldable pub checkAt : Frame → ℕ → Bool → ℕ → ℕ
+unfoldable pub checkAt : Frame → ℕ → ℕ → ℕ → ℕ
 checkAt F zero demand at = cond (leb (length (F .body)) at) (ended at) (stop TooDeep)
 checkAt F (suc d) demand at =
     cond (leb (length (F .body)) at) (ended at)
     (nodeWalked F (checkAt F d) demand (at + 1) (nodeOf (getD (F .body) at 0)))
 
-unfoldable pub unaryAt : Frame → ℕ → Bool → Bool → ℕ → ℕ
-unaryAt F d demand list at = ofDemand demand list (checkAt F d true at)
+unfoldable pub readAt : Frame → ℕ → ℕ → ℕ → ℕ
+readAt F d demand at = readWalked (checkAt F d) demand at
 
-unfoldable pub armsAt : Frame → ℕ → Bool → ℕ → ℕ
+unfoldable pub tailAt : Frame → ℕ → ℕ → ℕ → ℕ
+tailAt F d demand at = tailWalked (checkAt F d) demand at
+
+unfoldable pub armsAt : Frame → ℕ → ℕ → ℕ → ℕ
 armsAt F d demand at = armsWalked (checkAt F d) demand at
 
-unfoldable pub callWalkedAt : Frame → ℕ → Bool → ℕ → ℕ → ℕ
+unfoldable pub callWalkedAt : Frame → ℕ → ℕ → ℕ → ℕ → ℕ
 callWalkedAt F d demand at g = callWalked F (checkAt F d) demand at g
 
 -- ---- Bodies
@@ -142,12 +206,13 @@ bodyEnd len w =
 
 -- a whole body
 unfoldable pub bodyAt : Frame → Check
-bodyAt F = bodyEnd (length (F .body)) (checkAt F mostDepth (bitOf 4 (F .ownKinds)) 0)
+bodyAt F = bodyEnd (length (F .body)) (checkAt F mostDepth (kindOf (F .ownKinds) (F .ownGuard) 4) 0)
 
 -- what the check of body i works on
-abbrev pub frameAt : List ℕ → ℕ → List ℕ → List ℕ → List ℕ → List ℕ → ℕ → Frame
-frameAt bytes count params kinds starts ends i =
-    frame (take (getD ends i 0 - getD starts i 0) (drop (getD starts i 0) bytes)) count params kinds (getD params i 0) (getD kinds i 0)
+abbrev pub frameAt : List ℕ → Sort → ℕ → List ℕ → List ℕ → List ℕ → List ℕ → List ℕ → ℕ → Frame
+frameAt bytes s count params kinds guards starts ends i =
+    frame (take (getD ends i 0 - getD starts i 0) (drop (getD starts i 0) bytes)) (contactsOf s) count params kinds guards
+    (getD params i 0) (getD kinds i 0) (getD guards i 0)
 
 -- so many bodies, from body i on
 unfoldable pub bodiesAt : (ℕ → Frame) → ℕ → ℕ → Check
@@ -165,8 +230,11 @@ pub record Placed (len count : ℕ) (params starts ends : List ℕ) : Type 0 whe
 -- ---- Headers
 
 -- a header of main's kind
-abbrev pub mainBits : ℕ → ℕ → Bool
-mainBits params kinds = cond (eqb params 1) (cond (bitOf 0 kinds) (not (bitOf 4 kinds)) false) false
+abbrev pub mainBits : Sort → ℕ → ℕ → ℕ → Bool
+mainBits One params kinds guard = eqb params 1 && (eqb (kindOf kinds guard 0) ramKind && eqb (kindOf kinds guard 4) truthKind)
+mainBits Two params kinds guard =
+    eqb params 2
+    && (eqb (kindOf kinds guard 0) ramKind && (eqb (kindOf kinds guard 1) guardKind && eqb (kindOf kinds guard 4) truthKind))
 
 -- a program whose length and count are not refused
 pub record Counted (bytes : List ℕ) (count : ℕ) : Type 0 where
@@ -175,24 +243,25 @@ pub record Counted (bytes : List ℕ) (count : ℕ) : Type 0 where
   pub few : count ≤ mostFunctions
 
 -- the places of the bodies, where the first header stands at `at`
-unfoldable pub rawStarts : ℕ → List Raw → List ℕ
-rawStarts at [] = []
-rawStarts at (x ∷ xs) = (at + 4) ∷ rawStarts (at + 4 + x .header .length) xs
+unfoldable pub rawStarts : Sort → ℕ → List Raw → List ℕ
+rawStarts s at [] = []
+rawStarts s at (x ∷ xs) = (at + headerBytes s) ∷ rawStarts s (at + headerBytes s + x .header .length) xs
 
-unfoldable pub rawEnds : ℕ → List Raw → List ℕ
-rawEnds at [] = []
-rawEnds at (x ∷ xs) = (at + 4 + x .header .length) ∷ rawEnds (at + 4 + x .header .length) xs
+unfoldable pub rawEnds : Sort → ℕ → List Raw → List ℕ
+rawEnds s at [] = []
+rawEnds s at (x ∷ xs) = (at + headerBytes s + x .header .length) ∷ rawEnds s (at + headerBytes s + x .header .length) xs
 
-unfoldable pub rawOutline : List Raw → Outline
-rawOutline xs =
+unfoldable pub rawOutline : Sort → List Raw → Outline
+rawOutline s xs =
     record {
       functions = length xs;
       params = padded mostFunctions 0 (map (λ (x : Raw). x .header .params) xs);
       kinds = padded mostFunctions 0 (map (λ (x : Raw). x .header .kinds) xs);
-      starts = padded mostFunctions 0 (rawStarts 1 xs);
-      ends = padded mostFunctions 0 (rawEnds 1 xs);
+      guards = padded mostFunctions 0 (map (λ (x : Raw). x .header .guard) xs);
+      starts = padded mostFunctions 0 (rawStarts s 1 xs);
+      ends = padded mostFunctions 0 (rawEnds s 1 xs);
     }
 
-abbrev pub scanFrom : ℕ → Parsed (List Raw) → Scan
-scanFrom len (got xs rest) = record { check = check.Passed; outline = rawOutline xs; end = len - length rest }
-scanFrom len (refused f) = record { check = check.Refused f; outline = outlineOf []; end = 0 }
+abbrev pub scanFrom : Sort → ℕ → Parsed (List Raw) → Scan
+scanFrom s len (got xs rest) = record { check = check.Passed; outline = rawOutline s xs; end = len - length rest }
+scanFrom s len (refused f) = record { check = check.Refused f; outline = outlineOf s []; end = 0 }

@@ -2,32 +2,46 @@
 // a place of the body or a refusal, and body and headers go from call to call as one word each: this
 // recursion is what checking a program costs.
 use refusal::Refusal;
+use syntax::GUARD;
 use syntax::Node;
+use syntax::RAM;
+use syntax::TRUTH;
 use syntax::node_of;
 ghost use mathlib.Core.Path.{_≡_};
 ghost use Prim.Native.Nat.{_<_, _≤_};
-ghost use Rattle.rule.specs.Walk.{same, leafWalked, paramWalked, atMostFour, frameIn, Sized, stop, ended, checkAt, unaryAt, armsAt, callWalkedAt};
+ghost use Rattle.rule.specs.Walk.{meets, kindOf, leafWalked, paramWalked, guardEmptyWalked, atMostFour, frameIn, Sized, stop, ended};
+ghost use Rattle.rule.specs.Walk.{checkAt, readAt, tailAt, armsAt, callWalkedAt};
 
 // The numbers from here on stand for refusals: no place of a body is so great.
 pub const STOPS: usize = 65536;
 
-// An array of headers: from 0 on the functions' counts of parameters, from KINDS on their kinds bytes, then
-// how many functions there are, and the count and the kinds byte of the function whose body is checked.
+// What a place demands is the number of a kind, or this one for a list of either contact.
+const ANY_LIST: u8 = 3;
+
+// An array of headers: from 0 on the functions' counts of parameters, from KINDS on their kinds bytes, from GUARDS on
+// their guard bytes, then how many functions there are, the count, the kinds byte and the guard byte of the function whose
+// body is checked, and how many contacts.
 pub const KINDS: usize = 32;
 
-pub const FUNCTIONS: usize = 64;
+pub const GUARDS: usize = 64;
 
-pub const OWN_PARAMS: usize = 65;
+pub const FUNCTIONS: usize = 96;
 
-pub const OWN_KINDS: usize = 66;
+pub const OWN_PARAMS: usize = 97;
 
-pub const HEADS: usize = 67;
+pub const OWN_KINDS: usize = 98;
 
-// The place after the expression at a place of a body, with so much depth left, at the kind that its place
-// demands (`list`, or Bool); or its refusal. Where `at` is a refusal, it is the answer.
-pub fn check(body: &&[u8], heads: &[u8; HEADS], list: bool, depth: u8, at: usize) -> usize
+pub const OWN_GUARD: usize = 99;
+
+pub const CONTACTS: usize = 100;
+
+pub const HEADS: usize = 101;
+
+// The place after the expression at a place of a body, with so much depth left, if it meets the demand; or its refusal.
+// Where `at` is a refusal, it is the answer.
+pub fn check(body: &&[u8], heads: &[u8; HEADS], demand: u8, depth: u8, at: usize) -> usize
     requires { ⌜ Sized (frameIn (now (now body)) (now heads)) ⌝ }
-    ensures { λ r. ⌜ r ≡ checkAt (frameIn (now (now (body .entry))) (now (heads .entry))) depth list at ⌝ }
+    ensures { λ r. ⌜ r ≡ checkAt (frameIn (now (now (body .entry))) (now (heads .entry))) depth demand at ⌝ }
 {
     if body.len() <= at {
         return after_end(at);
@@ -38,16 +52,24 @@ pub fn check(body: &&[u8], heads: &[u8; HEADS], list: bool, depth: u8, at: usize
     let left = depth - 1;
     let next = at + 1;
     match node_of(body[at]) {
-        Node::False => leaf(list, false, next),
-        Node::True => leaf(list, false, next),
-        Node::Empty => leaf(list, true, next),
-        Node::Param(i) => param(heads[OWN_PARAMS], heads[OWN_KINDS], list, i, next),
-        Node::Head => unary(body, heads, list, false, left, next),
-        Node::Tail => unary(body, heads, list, true, left, next),
-        Node::Null => unary(body, heads, list, false, left, next),
-        Node::If => arms(body, heads, list, left, next),
+        Node::False => leaf(demand, TRUTH, next),
+        Node::True => leaf(demand, TRUTH, next),
+        Node::Empty => leaf(demand, RAM, next),
+        Node::EmptyGuard => guard_empty(heads[CONTACTS], demand, next),
+        Node::Param(i) => param(
+            heads[OWN_PARAMS],
+            heads[OWN_KINDS],
+            heads[OWN_GUARD],
+            demand,
+            i,
+            next,
+        ),
+        Node::Head => reading(body, heads, demand, left, next),
+        Node::Tail => tail(body, heads, demand, left, next),
+        Node::Null => reading(body, heads, demand, left, next),
+        Node::If => arms(body, heads, demand, left, next),
         Node::Cons => refused(Refusal::ListConstructor),
-        Node::Call(g) => call(body, heads, list, left, next, g),
+        Node::Call(g) => call(body, heads, demand, left, next, g),
         Node::Unknown => refused(Refusal::UnknownByte),
     }
 }
@@ -71,51 +93,74 @@ fn after_end(at: usize) -> usize
 }
 
 // A node with no operands.
-fn leaf(demand: bool, list: bool, next: usize) -> usize
-    ensures { λ r. ⌜ r ≡ leafWalked demand list next ⌝ }
+fn leaf(demand: u8, kind: u8, next: usize) -> usize
+    ensures { λ r. ⌜ r ≡ leafWalked demand kind next ⌝ }
 {
-    if alike(demand, list) {
+    if allowed(demand, kind) {
         next
     } else {
         refused(Refusal::WrongKind)
     }
 }
 
-fn param(own_params: u8, own_kinds: u8, demand: bool, i: u8, next: usize) -> usize
-    requires { ⌜ «own_params» ≤ 4 ⌝ }
-    ensures { λ r. ⌜ r ≡ paramWalked «own_params» «own_kinds» demand i next ⌝ }
+// The empty guard list, of a program with so many contacts.
+fn guard_empty(contacts: u8, demand: u8, next: usize) -> usize
+    ensures { λ r. ⌜ r ≡ guardEmptyWalked contacts demand next ⌝ }
 {
-    if i < own_params {
-        leaf(demand, trace::bit(own_kinds as u64, i as u64), next)
+    if contacts == 2 {
+        leaf(demand, GUARD, next)
     } else {
         refused(Refusal::UnknownByte)
     }
 }
 
-// A node with one list operand.
-fn unary(body: &&[u8], heads: &[u8; HEADS], demand: bool, list: bool, depth: u8, at: usize) -> usize
-    requires { ⌜ Sized (frameIn (now (now body)) (now heads)) ⌝ }
-    ensures { λ r. ⌜ r ≡ unaryAt (frameIn (now (now (body .entry))) (now (heads .entry))) depth demand list at ⌝ }
+// Parameter i of the function whose body is checked.
+fn param(own_params: u8, own_kinds: u8, own_guard: u8, demand: u8, i: u8, next: usize) -> usize
+    ensures { λ r. ⌜ r ≡ paramWalked «own_params» «own_kinds» «own_guard» demand i next ⌝ }
 {
-    if alike(demand, list) {
-        check(body, heads, true, depth, at)
+    if i < own_params {
+        leaf(demand, kind(own_kinds, own_guard, i as u64), next)
+    } else {
+        refused(Refusal::UnknownByte)
+    }
+}
+
+// hd or null: a Bool, of a list of either contact.
+fn reading(body: &&[u8], heads: &[u8; HEADS], demand: u8, depth: u8, at: usize) -> usize
+    requires { ⌜ Sized (frameIn (now (now body)) (now heads)) ⌝ }
+    ensures { λ r. ⌜ r ≡ readAt (frameIn (now (now (body .entry))) (now (heads .entry))) depth demand at ⌝ }
+{
+    if allowed(demand, TRUTH) {
+        check(body, heads, ANY_LIST, depth, at)
     } else {
         refused(Refusal::WrongKind)
     }
 }
 
+// tl: a list of the contact that is demanded.
+fn tail(body: &&[u8], heads: &[u8; HEADS], demand: u8, depth: u8, at: usize) -> usize
+    requires { ⌜ Sized (frameIn (now (now body)) (now heads)) ⌝ }
+    ensures { λ r. ⌜ r ≡ tailAt (frameIn (now (now (body .entry))) (now (heads .entry))) depth demand at ⌝ }
+{
+    if demand == TRUTH {
+        refused(Refusal::WrongKind)
+    } else {
+        check(body, heads, demand, depth, at)
+    }
+}
+
 // A condition and two branches.
-fn arms(body: &&[u8], heads: &[u8; HEADS], demand: bool, depth: u8, at: usize) -> usize
+fn arms(body: &&[u8], heads: &[u8; HEADS], demand: u8, depth: u8, at: usize) -> usize
     requires { ⌜ Sized (frameIn (now (now body)) (now heads)) ⌝ }
     ensures { λ r. ⌜ r ≡ armsAt (frameIn (now (now (body .entry))) (now (heads .entry))) depth demand at ⌝ }
 {
-    let second = check(body, heads, false, depth, at);
+    let second = check(body, heads, TRUTH, depth, at);
     let third = check(body, heads, demand, depth, second);
     check(body, heads, demand, depth, third)
 }
 
 // A call of a function, with its arguments.
-fn call(body: &&[u8], heads: &[u8; HEADS], demand: bool, depth: u8, at: usize, callee: u8) -> usize
+fn call(body: &&[u8], heads: &[u8; HEADS], demand: u8, depth: u8, at: usize, callee: u8) -> usize
     requires { ⌜ Sized (frameIn (now (now body)) (now heads)) ⌝ }
     ensures { λ r. ⌜ r ≡ callWalkedAt (frameIn (now (now (body .entry))) (now (heads .entry))) depth demand at callee ⌝ }
 {
@@ -123,13 +168,14 @@ fn call(body: &&[u8], heads: &[u8; HEADS], demand: bool, depth: u8, at: usize, c
         return refused(Refusal::UnknownByte);
     }
     let g = callee as usize;
-    let signature = wide(heads[KINDS + g]);
-    if alike(demand, trace::bit(signature, 4)) {
+    let kinds = heads[KINDS + g];
+    let guard = heads[GUARDS + g];
+    if allowed(demand, kind(kinds, guard, 4)) {
         let count = at_most_four(heads[g]);
         let mut i: u64 = 0;
         let mut next = at;
         while i < count {
-            next = check(body, heads, trace::bit(signature, i), depth, next);
+            next = check(body, heads, kind(kinds, guard, i), depth, next);
             i += 1;
         }
         next
@@ -138,18 +184,25 @@ fn call(body: &&[u8], heads: &[u8; HEADS], demand: bool, depth: u8, at: usize, c
     }
 }
 
-// Whether two kinds are the same.
-fn alike(a: bool, b: bool) -> bool
-    ensures { λ r. ⌜ r ≡ same a b ⌝ }
+// Whether a node of a kind may stand at a place with this demand.
+fn allowed(demand: u8, kind: u8) -> bool
+    ensures { λ r. ⌜ r ≡ meets demand kind ⌝ }
 {
-    if a { b } else { !b }
+    if demand == kind {
+        return true;
+    }
+    if demand == ANY_LIST {
+        kind != TRUTH
+    } else {
+        false
+    }
 }
 
-// A byte as a number of 64 bits.
-pub fn wide(byte: u8) -> u64
-    ensures { λ r. ⌜ r ≡ byte ⌝ }
+// The kind at a place of a header: of parameter i, and at 4 of the result.
+pub fn kind(kinds: u8, guard: u8, i: u64) -> u8
+    ensures { λ r. ⌜ r ≡ kindOf kinds guard i ⌝ }
 {
-    byte as u64
+    syntax::kind_by(trace::bit(kinds as u64, i), trace::bit(guard as u64, i))
 }
 
 // A count of parameters, at most four.

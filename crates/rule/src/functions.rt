@@ -6,22 +6,27 @@ use crate::expression;
 use crate::expression::HEADS;
 use refusal::Check;
 use refusal::Refusal;
+use semantics::Sort;
+use syntax::GUARD;
 use syntax::HeaderRead;
+use syntax::RAM;
+use syntax::TRUTH;
 ghost use mathlib.Core.Path.{_≡_};
-ghost use Prim.Native.Nat.{ℕ, _+_, _≤_};
+ghost use Prim.Native.Nat.{ℕ, _+_, _<_, _≤_};
 ghost use mathlib.Core.List.{List, []};
-ghost use lib.ListN.{length, drop};
+ghost use lib.ListN.{length, getD, drop};
 ghost use lib.Seq.{paste};
 ghost use Rattle.rule.specs.Reading.{onward, rawsFrom, bodiesFrom};
 ghost use Rattle.rule.specs.Outline.{outlineOf, judgedFrom};
-ghost use Rattle.rule.specs.Walk.{frame, frameIn, Sized, frameAt, mainBits, bodyAt, bodiesAt, Placed, Counted, scanFrom};
+ghost use Rattle.semantics.specs.declared.Sort.the-variants as Sort;
+ghost use Rattle.rule.specs.Walk.{frame, frameIn, Sized, contactsOf, frameAt, mainBits, bodyAt, bodiesAt, Placed, Counted, scanFrom};
 
-// Checks the functions of a program of so many.
-pub fn check_functions(program: &[u8], count: u8) -> Judged
+// Checks the functions of a program of a sort, of so many.
+pub fn check_functions(program: &[u8], sort: Sort, count: u8) -> Judged
     requires { ⌜ Counted (now program) count ⌝ }
-    ensures { λ r. ⌜ r ≡ judgedFrom (onward (rawsFrom count (drop 1 (now (program .entry)))) bodiesFrom) ⌝ }
+    ensures { λ r. ⌜ r ≡ judgedFrom sort (onward (rawsFrom sort count (drop 1 (now (program .entry)))) (bodiesFrom sort)) ⌝ }
 {
-    let scan = scan_headers(program, count);
+    let scan = scan_headers(program, sort, count);
     let check = scan.check;
     match check {
         Check::Refused(refusal) => refused(refusal),
@@ -32,10 +37,20 @@ pub fn check_functions(program: &[u8], count: u8) -> Judged
             let outline = scan.outline;
             let params = outline.params;
             let kinds = outline.kinds;
-            if is_main(params[0], kinds[0]) {
+            let guards = outline.guards;
+            if is_main(sort, params[0], kinds[0], guards[0]) {
                 let starts = outline.starts;
                 let ends = outline.ends;
-                match check_bodies(program, count, &params, &kinds, &starts, &ends) {
+                match check_bodies(
+                    program,
+                    sort,
+                    count,
+                    &params,
+                    &kinds,
+                    &guards,
+                    &starts,
+                    &ends,
+                ) {
                     Check::Refused(refusal) => refused(refusal),
                     Check::Passed => Judged {
                         check: Check::Passed,
@@ -51,7 +66,7 @@ pub fn check_functions(program: &[u8], count: u8) -> Judged
 
 // A refusal, with the outline of no functions.
 pub fn refused(refusal: Refusal) -> Judged
-    ensures { λ r. ⌜ (r .check ≡ Check.Refused refusal) × (r .outline ≡ outlineOf []) ⌝ }
+    ensures { λ r. ⌜ (r .check ≡ Check.Refused refusal) × (r .outline ≡ outlineOf Sort.One []) ⌝ }
 {
     Judged {
         check: Check::Refused(refusal),
@@ -61,12 +76,13 @@ pub fn refused(refusal: Refusal) -> Judged
 
 // The outline of no functions.
 fn no_functions() -> Outline
-    ensures { λ r. ⌜ r ≡ outlineOf [] ⌝ }
+    ensures { λ r. ⌜ r ≡ outlineOf Sort.One [] ⌝ }
 {
     Outline {
         functions: 0,
         params: [0; 32],
         kinds: [0; 32],
+        guards: [0; 32],
         starts: [0; 32],
         ends: [0; 32],
     }
@@ -80,19 +96,21 @@ pub struct Scan {
 }
 
 // Reads so many headers, each after the body of the one before.
-fn scan_headers(program: &[u8], count: u8) -> Scan
+fn scan_headers(program: &[u8], sort: Sort, count: u8) -> Scan
     requires { ⌜ Counted (now program) count ⌝ }
-    ensures { λ r. ⌜ r ≡ scanFrom (length (now (program .entry))) (rawsFrom count (drop 1 (now (program .entry)))) ⌝ }
+    ensures { λ r. ⌜ r ≡ scanFrom sort (length (now (program .entry))) (rawsFrom sort count (drop 1 (now (program .entry)))) ⌝ }
 {
     let n = count as usize;
+    let size = syntax::header_bytes(sort);
     let mut params = [0u8; 32];
     let mut kinds = [0u8; 32];
+    let mut guards = [0u8; 32];
     let mut starts = [0u16; 32];
     let mut ends = [0u16; 32];
     let mut at: usize = 1;
     let mut i: usize = 0;
     while i < n {
-        match syntax::header_at(program, at) {
+        match syntax::header_at(program, sort, at) {
             HeaderRead::Refused(refusal) => {
                 return Scan {
                     check: Check::Refused(refusal),
@@ -101,10 +119,11 @@ fn scan_headers(program: &[u8], count: u8) -> Scan
                 };
             }
             HeaderRead::Found(header) => {
-                let start = at + 4;
+                let start = at + size;
                 let end = start + (header.length as usize);
                 params[i] = header.params;
                 kinds[i] = header.kinds;
+                guards[i] = header.guard;
                 starts[i] = start as u16;
                 ends[i] = end as u16;
                 at = end;
@@ -118,6 +137,7 @@ fn scan_headers(program: &[u8], count: u8) -> Scan
             functions: count,
             params,
             kinds,
+            guards,
             starts,
             ends,
         },
@@ -125,32 +145,41 @@ fn scan_headers(program: &[u8], count: u8) -> Scan
     }
 }
 
-// Whether a header is main's: one list parameter, Bool result.
-fn is_main(params: u8, kinds: u8) -> bool
-    ensures { λ r. ⌜ r ≡ mainBits params kinds ⌝ }
+// Whether a header is main's: a ram list, of two contacts a guard list after it, Bool result.
+fn is_main(sort: Sort, params: u8, kinds: u8, guard: u8) -> bool
+    ensures { λ r. ⌜ r ≡ mainBits sort params kinds guard ⌝ }
 {
-    if params == 1 {
-        if trace::bit(kinds as u64, 0) {
-            !trace::bit(kinds as u64, 4)
-        } else {
-            false
+    if expression::kind(kinds, guard, 0) != RAM {
+        return false;
+    }
+    if expression::kind(kinds, guard, 4) != TRUTH {
+        return false;
+    }
+    match sort {
+        Sort::One => params == 1,
+        Sort::Two => {
+            if params == 2 {
+                expression::kind(kinds, guard, 1) == GUARD
+            } else {
+                false
+            }
         }
-    } else {
-        false
     }
 }
 
 // Checks the bodies, the first function's first.
 fn check_bodies(
     program: &[u8],
+    sort: Sort,
     count: u8,
     params: &[u8; 32],
     kinds: &[u8; 32],
+    guards: &[u8; 32],
     starts: &[u16; 32],
     ends: &[u16; 32],
 ) -> Check
     requires { ⌜ Placed (length (now program)) count (now params) (now starts) (now ends) ⌝ }
-    ensures { λ r. ⌜ r ≡ bodiesAt (frameAt (now (program .entry)) count (now (params .entry)) (now (kinds .entry)) (now (starts .entry)) (now (ends .entry))) count 0 ⌝ }
+    ensures { λ r. ⌜ r ≡ bodiesAt (frameAt (now (program .entry)) sort count (now (params .entry)) (now (kinds .entry)) (now (guards .entry)) (now (starts .entry)) (now (ends .entry))) count 0 ⌝ }
 {
     let n = count as usize;
     let mut i: usize = 0;
@@ -158,7 +187,7 @@ fn check_bodies(
         let start = starts[i] as usize;
         let end = ends[i] as usize;
         let body = &program[start..end];
-        let heads = heads_of(count, params, kinds, params[i], kinds[i]);
+        let heads = heads_of(sort, count, params, kinds, guards, i);
         match check_body(body, &heads) {
             Check::Refused(refusal) => {
                 return Check::Refused(refusal);
@@ -172,21 +201,36 @@ fn check_bodies(
 
 // The array of headers for the body of one function.
 fn heads_of(
+    sort: Sort,
     count: u8,
     params: &[u8; 32],
     kinds: &[u8; 32],
-    own_params: u8,
-    own_kinds: u8,
+    guards: &[u8; 32],
+    own: usize,
 ) -> [u8; HEADS]
-    ensures { λ r. ⌜ ((body : List ℕ) → frameIn body r ≡ frame body count (now (params .entry)) (now (kinds .entry)) «own_params» «own_kinds») ⌝ }
+    requires { ⌜ own < 32 ⌝ }
+    ensures { λ r. ⌜ ((body : List ℕ) → frameIn body r ≡ frame body (contactsOf sort) count (now (params .entry)) (now (kinds .entry)) (now (guards .entry)) (getD (now (params .entry)) own 0) (getD (now (kinds .entry)) own 0) (getD (now (guards .entry)) own 0)) ⌝ }
 {
     let mut heads = [0u8; HEADS];
     copy(params, 0, &mut heads);
     copy(kinds, expression::KINDS, &mut heads);
+    copy(guards, expression::GUARDS, &mut heads);
     heads[expression::FUNCTIONS] = count;
-    heads[expression::OWN_PARAMS] = own_params;
-    heads[expression::OWN_KINDS] = own_kinds;
+    heads[expression::OWN_PARAMS] = params[own];
+    heads[expression::OWN_KINDS] = kinds[own];
+    heads[expression::OWN_GUARD] = guards[own];
+    heads[expression::CONTACTS] = contacts(sort);
     heads
+}
+
+// How many contacts a program of a sort has.
+fn contacts(sort: Sort) -> u8
+    ensures { λ r. ⌜ r ≡ contactsOf sort ⌝ }
+{
+    match sort {
+        Sort::One => 1,
+        Sort::Two => 2,
+    }
 }
 
 // Copies bytes to a place of an array of headers.
@@ -206,9 +250,12 @@ fn check_body(body: &[u8], heads: &[u8; HEADS]) -> Check
     requires { ⌜ Sized (frameIn (now body) (now heads)) ⌝ }
     ensures { λ r. ⌜ r ≡ bodyAt (frameIn (now (body .entry)) (now (heads .entry))) ⌝ }
 {
-    let signature = expression::wide(heads[expression::OWN_KINDS]);
-    let list = trace::bit(signature, 4);
-    let end = expression::check(&body, heads, list, syntax::MOST_DEPTH, 0);
+    let result = expression::kind(
+        heads[expression::OWN_KINDS],
+        heads[expression::OWN_GUARD],
+        4,
+    );
+    let end = expression::check(&body, heads, result, syntax::MOST_DEPTH, 0);
     if expression::STOPS <= end {
         return refusal::numbered(end - expression::STOPS);
     }

@@ -1,5 +1,6 @@
 pub mod Induction
 pub mod Unique
+pub mod Demands
 pub mod Bodies
 pub mod Numbering
 pub mod Cells

@@ -22,7 +22,7 @@ use lib.Dec.{eqb}
 use lib.Seq.{set-append-left}
 use borrow.Author.Tests.{eqb-true, eqb-false}
 use Rattle.semantics.specs.declared.Outcome.{Outcome}
-use Rattle.semantics.specs.Language.{Function, Program, Trace, Value, InKinds, WellKinded}
+use Rattle.semantics.specs.Language.{Function, Program, Traces, Value, InKinds, only, WellKinded}
 use Rattle.semantics.specs.Numbering.{cells, cellOf}
 use Rattle.semantics.specs.Cells.{codeOf}
 use Rattle.semantics.specs.Bodies.{bodyOutcome}
@@ -40,7 +40,7 @@ one-zero : {A : Type 0} (s : Option A) → oneIf s ≡ 0 → s ≡ none
 one-zero none e = refl
 one-zero (some a) e = absurd (omega arith)
 
-module _ (P : Program) (t : Trace) (T : Table) where
+module _ (P : Program) (t : Traces) (T : Table) where
   pub length-visits : (n : ℕ) → length (visits P t n T) ≡ length T
   unfolding visits
   length-visits zero = refl
@@ -69,25 +69,25 @@ module _ (P : Program) (t : Trace) (T : Table) where
   still-same e = stores-none (cells t P) e .0
 
 -- no undecided cell has a decided body
-abbrev pub Closed : Program → Trace → Table → Type 0
+abbrev pub Closed : Program → Traces → Table → Type 0
 Closed P t T = (g : ℕ) (vs : List Value) (f : Function) → getElem? P g ≡ some f → InKinds t (f .params) vs → lookup P t T g vs ≡ none
     → bodyOutcome t (lookup P t T) vs (f .body) ≡ none
 
-pub still-closed : (P : Program) (t : Trace) (T : Table) → passStores P t T ≡ 0 → Closed P t T
+pub still-closed : (P : Program) (t : Traces) (T : Table) → passStores P t T ≡ 0 → Closed P t T
 unfolding passStores
 still-closed P t T e g vs f q h l =
     let c = cellOf t P g vs in
     let s = stores-none P t T (cells t P) e .1 c (cell-lt t P g f vs q h) in
     sym (stored-body P t T c (here t P g f vs q h) (sym (lookup-heldAt P t T g vs f q h) ∙ l)) ∙ s
 
-pub length-after : (P : Program) (t : Trace) (k : ℕ) → length (tableAfter P t k) ≡ cells t P
+pub length-after : (P : Program) (t : Traces) (k : ℕ) → length (tableAfter P t k) ≡ cells t P
 unfolding tableAfter
 length-after P t zero = length-replicate (cells t P) 0
 length-after P t (suc k) = length-pass P t (tableAfter P t k) ∙ length-after P t k
 
 -- ---- Well-kinded programs
 
-module _ (P : Program) (t : Trace) (wk : WellKinded P) where
+module _ (P : Program) (t : Traces) (wk : WellKinded P) where
   pub undecided-visits : (T : Table) → cells t P ≤ length T → (n : ℕ) → n ≤ cells t P
       → undecided P t (visits P t n T) + stores P t n T ≡ undecided P t T
   unfolding visits stores
@@ -117,7 +117,7 @@ module _ (P : Program) (t : Trace) (wk : WellKinded P) where
       go : (r : Option Outcome) → lookup P t T g vs ≡ r → lookup P t T g vs ≡ some o
       go none l = let n = st g vs f q h l in cc
       go (some x) l =
-          let d = sound P t (lookup P t T) (lookup-kinds P t T) (ok .sound) (f .params) vs h (f .body) (f .result) o (wk g f q) b in
+          let d = sound P t (lookup P t T) (lookup-kinds P t T) (ok .sound) (f .params) vs h (f .body) (only (f .result)) o (wk g f q) b in
           let s = derives-unique P t d (ok .sound g vs f x q h l) in
           cc
 
@@ -193,7 +193,7 @@ module _ (P : Program) (t : Trace) (wk : WellKinded P) where
       let r = first-still in
       rw (r .counted, still-same P t (tableAfter P t (r .before)) (r .still)) (r .still)
 
-from-in-time : (P : Program) (t : Trace) (n k : ℕ) → passesFrom P t n k ≤ suc (k + n)
+from-in-time : (P : Program) (t : Traces) (n k : ℕ) → passesFrom P t n k ≤ suc (k + n)
 unfolding passesFrom
 from-in-time P t zero k = omega arith
 from-in-time P t (suc n) k = go (eqb (passStores P t (tableAfter P t k)) 0) (from-in-time P t n (suc k))
@@ -202,13 +202,13 @@ from-in-time P t (suc n) k = go (eqb (passStores P t (tableAfter P t k)) 0) (fro
     go true l = omega arith
     go false l = omega arith
 
-pub count-in-time : (P : Program) (t : Trace) → passCount P t ≤ suc (cells t P)
+pub count-in-time : (P : Program) (t : Traces) → passCount P t ≤ suc (cells t P)
 unfolding passCount
 count-in-time P t = omega (arith, from-in-time P t (cells t P) zero)
 
 -- ---- A longer table
 
-module _ (P : Program) (t : Trace) (wk : WellKinded P) where
+module _ (P : Program) (t : Traces) (wk : WellKinded P) where
   lookup-append : (T : Table) (rest : List ℕ) → cells t P ≤ length T → SameCalls P t (lookup P t (T ++ rest)) (lookup P t T)
   unfolding lookup
   lookup-append T rest len g vs f q h = rw (List·getD-append T rest 0 (cellOf t P g vs) (omega (arith, cell-lt t P g f vs q h)))
@@ -225,7 +225,7 @@ module _ (P : Program) (t : Trace) (wk : WellKinded P) where
         heldAt-append T rest len c l,
         r .config,
         same-body P t (lookup P t (T ++ rest)) (lookup P t T) (lookup-kinds P t (T ++ rest)) (lookup-append T rest len)
-            (r .f .params) (r .vs) (r .areIn) (r .f .body) (r .f .result) (wk (r .g) (r .f) (r .isFun)),
+            (r .f .params) (r .vs) (r .areIn) (r .f .body) (only (r .f .result)) (wk (r .g) (r .f) (r .isFun)),
       )
 
   put-append : (T : Table) (rest : List ℕ) (c : ℕ) → c < length T → (s : Option Outcome) → storedIn (T ++ rest) c s ≡ storedIn T c s ++ rest

@@ -2,32 +2,33 @@
 --   good-content     a cell's content is the number of what the table says of its configuration
 --   closed-found     a closed table holds each outcome that has a derivation
 --   closed-right     so what it says of a configuration is right
---   main-said        what is decided from main's cell is what the table says of main on the whole trace
+--   main-said        what is decided from main's cell is what the table says of main on the whole trace or traces
 --   decides          the verdict and the table when passes end are what evaluating owes
 use Prim.Native.Nat.{ℕ, _<_}
 use native.Mathlib.Omega.{arith}
 use mathlib.Core.Path.{_≡_, refl, sym, ap, _∙_}
-use mathlib.Core.List.{List, [], _∷_, _++_}
+use mathlib.Core.List.{List, _++_}
 use mathlib.Core.Option.{Option, none, some}
 use lib.ListN.{length, getElem?, getD, length-append, List·getD-append}
-use lib.Dec.{le→leb}
+use Rattle.semantics.specs.declared.Sort.{Sort}
 use Rattle.semantics.specs.declared.Outcome.{Outcome}
 use Rattle.semantics.specs.declared.Outcome.the-variants.{Truth, Suffix, Failed}
-use Rattle.semantics.specs.Language.{truth, Function, Program, IsMain, Trace, Value, suffix, InKinds, WellKinded}
+use Rattle.semantics.specs.Language.{truth, Function, Program, IsMain, Traces, Value, InKinds, wholeTraces, only, WellKinded}
 use Rattle.semantics.specs.Numbering.{cellOf}
 use Rattle.semantics.specs.Cells.{contentOf, onlyOfKind, outcomeOf, outcomeIn}
 use Rattle.semantics.specs.Visits.{Table, lookup}
 use Rattle.semantics.specs.Passes.{finalTable}
-use Rattle.semantics.specs.Verdicts.{decisionOf, mainDecision, verdictOf}
+use Rattle.semantics.specs.Verdicts.{decisionOf, mainDecision, mainCell, verdictOf}
 use Rattle.semantics.specs.Demand.{Gives, Right, Decides}
 use Rattle.semantics.proofs.Unique.{derives-unique}
+use Rattle.semantics.proofs.Demands.{whole-in}
 use Rattle.semantics.proofs.Bodies.{complete}
 use Rattle.semantics.proofs.Numbering.{cell-lt, main-cell}
 use Rattle.semantics.proofs.Cells.{code-held}
 use Rattle.semantics.proofs.Visits.{lookup-held, lookup-kinds, lookup-heldAt, Good}
 use Rattle.semantics.proofs.Passes.{Closed, closed-calls, still-closed, first-still, count-in-time, final-good, final-still}
 
-pub good-content : (P : Program) (t : Trace) (T : Table) → Good P t T → (g : ℕ) (f : Function) (vs : List Value)
+pub good-content : (P : Program) (t : Traces) (T : Table) → Good P t T → (g : ℕ) (f : Function) (vs : List Value)
     → getElem? P g ≡ some f → InKinds t (f .params) vs → getD T (cellOf t P g vs) 0 ≡ contentOf (lookup P t T g vs)
 good-content P t T ok g f vs q h = go (lookup P t T g vs) refl
   where
@@ -35,12 +36,12 @@ good-content P t T ok g f vs q h = go (lookup P t T g vs) refl
     go none l = ok .clean (cellOf t P g vs) (cell-lt t P g f vs q h) (sym (lookup-heldAt P t T g vs f q h) ∙ l)
     go (some o) l = code-held t (f .result) (getD T (cellOf t P g vs) 0) o (sym (lookup-held P t T g vs f q) ∙ l) .0
 
-module _ (P : Program) (t : Trace) (wk : WellKinded P) (T : Table) (ok : Good P t T) (st : Closed P t T)
+module _ (P : Program) (t : Traces) (wk : WellKinded P) (T : Table) (ok : Good P t T) (st : Closed P t T)
     (g : ℕ) (f : Function) (vs : List Value) (q : getElem? P g ≡ some f) (h : InKinds t (f .params) vs) where
   pub closed-found : (o : Outcome) → Gives P t f vs o → lookup P t T g vs ≡ some o
   closed-found o d =
       let closed = closed-calls P t wk T ok st in
-      closed g vs f o q h (complete P t wk (lookup P t T) (lookup-kinds P t T) closed d (f .params) (f .result) h (wk g f q))
+      closed g vs f o q h (complete P t wk (lookup P t T) (lookup-kinds P t T) closed d (f .params) (only (f .result)) h (wk g f q))
 
   pub closed-right : Right P t f vs (lookup P t T g vs)
   closed-right = record {
@@ -54,34 +55,29 @@ module _ (P : Program) (t : Trace) (wk : WellKinded P) (T : Table) (ok : Good P 
       none-if n (some o) l = absurd (n o (ok .sound g vs f o q h l))
 
 -- the values of Bool are the same on every trace
-only-truth : (t t′ : Trace) (said : Option Outcome) → onlyOfKind t truth said ≡ onlyOfKind t′ truth said
+only-truth : (t t′ : Traces) (said : Option Outcome) → onlyOfKind t truth said ≡ onlyOfKind t′ truth said
 only-truth t t′ none = refl
 only-truth t t′ (some (Truth b)) = refl
-only-truth t t′ (some (Suffix k)) = refl
+only-truth t t′ (some (Suffix c k)) = refl
 only-truth t t′ (some (Failed x)) = refl
 
-pub main-said : (P : Program) (t : Trace) (T : Table) (f : Function) → getElem? P 0 ≡ some f → IsMain f
-    → mainDecision (getD T (length t) 0) ≡ decisionOf (lookup P t T 0 (suffix (length t) ∷ []))
+pub main-said : (P : Program) (t : Traces) (T : Table) (s : Sort) (f : Function) → getElem? P 0 ≡ some f → IsMain s f
+    → mainDecision (getD T (mainCell t P) 0) ≡ decisionOf (lookup P t T 0 (wholeTraces s t))
 unfolding mainDecision outcomeIn
-main-said P t T f q m =
-    rw (lookup-held P t T 0 (suffix (length t) ∷ []) f q, m .result, main-cell t P f q (m .params))
-    (ap decisionOf (only-truth [] t (outcomeOf (getD T (length t) 0))))
+main-said P t T s f q m =
+    rw (lookup-held P t T 0 (wholeTraces s t) f q, m .result, main-cell s t P f q (m .params))
+    (ap decisionOf (only-truth _ t (outcomeOf truth (getD T (mainCell t P) 0))))
 
-main-kinds : (t : Trace) (f : Function) → IsMain f → InKinds t (f .params) (suffix (length t) ∷ [])
-main-kinds t f m = rw (m .params) (le→leb (length t) (length t) (omega arith), tt)
-
-pub decides : (P : Program) (t : Trace) → WellKinded P → ((f : Function) → getElem? P 0 ≡ some f → IsMain f) → (rest : List ℕ)
-    → Decides P t (verdictOf P t) (finalTable P t ++ rest)
+pub decides : (P : Program) (t : Traces) → WellKinded P → (rest : List ℕ) → Decides P t (verdictOf P t) (finalTable P t ++ rest)
 unfolding verdictOf
-decides P t wk isMain rest =
+decides P t wk rest =
     let T = finalTable P t in
     let ok = final-good P t wk in
     let st = still-closed P t T (final-still P t wk) in
     record {
-      main = λ f q.
-          let m = isMain f q in
-          let vs = suffix (length t) ∷ [] in
-          (lookup P t T 0 vs, main-said P t T f q m, closed-right P t wk T ok st 0 f vs q (main-kinds t f m));
+      main = λ s f q m.
+          let vs = wholeTraces s t in
+          (lookup P t T 0 vs, main-said P t T s f q m, closed-right P t wk T ok st 0 f vs q (rw (m .params) (whole-in s t)));
       within = λ g f vs q h. omega (arith, cell-lt t P g f vs q h, ok .long, length-append T rest);
       cell = λ g f vs q h.
           let l : cellOf t P g vs < length T = omega (arith, cell-lt t P g f vs q h, ok .long) in

@@ -1,4 +1,4 @@
--- A derivation's outcome is unique. Assumes nothing of program and trace.
+-- A derivation's outcome is unique. Assumes nothing of program and traces.
 --   given-injective, given-not-failed    a value as an outcome
 --   derives-unique                       an outcome of an expression
 use Prim.Native.Nat.{ℕ, zero}
@@ -8,22 +8,23 @@ use mathlib.Core.Bool.{Bool, true, false}
 use mathlib.Core.List.{List, [], _∷_}
 use mathlib.Core.Option.{some}
 use lib.ListN.{getElem?}
+use Rattle.semantics.specs.declared.Contact.{Contact}
 use Rattle.semantics.specs.declared.Error.{Error}
 use Rattle.semantics.specs.declared.Outcome.{Outcome}
 use Rattle.semantics.specs.declared.Outcome.the-variants.{Truth, Suffix, Failed}
-use Rattle.semantics.specs.Language.{Op, Expr, constant, empty, param, op, ifte, call, Args, noArgs, arg, Function, Program, Trace, Value, bit, suffix, given}
+use Rattle.semantics.specs.Language.{Op, Expr, constant, empty, param, op, ifte, call, Args, noArgs, arg, Function, Program, Traces, Value, bit, suffix, given}
 use Rattle.semantics.specs.Rules.{applied, Arguments, values, failed, Derives, r-constant, r-empty, r-param, r-op, r-op-error, r-then, r-else, r-if-error, r-call, r-call-error, DerivesAll, r-none, r-arg, r-arg-error, r-later-error}
 use Rattle.semantics.proofs.Induction.{Kept, derived}
 
 pub given-injective : (v w : Value) → given v ≡ given w → v ≡ w
 given-injective (bit a) (bit b) e = cc
-given-injective (bit a) (suffix k) e = cc
-given-injective (suffix k) (bit b) e = cc
-given-injective (suffix k) (suffix j) e = cc
+given-injective (bit a) (suffix c k) e = cc
+given-injective (suffix c k) (bit b) e = cc
+given-injective (suffix c k) (suffix c′ j) e = cc
 
 pub given-not-failed : (v : Value) {x : Error} {B : Type 0} → given v ≡ Failed x → B
 given-not-failed (bit b) e = let z : _≡_ {A = ℕ} 0 1 = cc in absurd (omega arith)
-given-not-failed (suffix k) e = let z : _≡_ {A = ℕ} 0 1 = cc in absurd (omega arith)
+given-not-failed (suffix c k) e = let z : _≡_ {A = ℕ} 0 1 = cc in absurd (omega arith)
 
 -- arguments that have values do not fail
 not-both : {vs : List Value} {x : Error} {B : Type 0} → values vs ≡ failed x → B
@@ -32,7 +33,7 @@ not-both e = let z : _≡_ {A = ℕ} 0 1 = cc in absurd (omega arith)
 not-flipped : {B : Type 0} → Truth true ≡ Truth false → B
 not-flipped e = let z : _≡_ {A = ℕ} 0 1 = cc in absurd (omega arith)
 
-module _ (P : Program) (t : Trace) where
+module _ (P : Program) (t : Traces) where
   -- no other outcome is derived
   abbrev Only : List Value → Expr → Outcome → Type 0
   Only env e o = (o′ : Outcome) → Derives P t env e o′ → o ≡ o′
@@ -43,18 +44,18 @@ module _ (P : Program) (t : Trace) where
   only-constant : {env : List Value} {b : Bool} → Only env (constant b) (Truth b)
   only-constant o r-constant = refl
 
-  only-empty : {env : List Value} → Only env empty (Suffix zero)
+  only-empty : {env : List Value} {c : Contact} → Only env (empty c) (Suffix c zero)
   only-empty o r-empty = refl
 
   only-param : {env : List Value} {i : ℕ} {v : Value} → getElem? env i ≡ some v → Only env (param i) (given v)
   only-param {v = v} h o (r-param {v = w} h′) = let e : v ≡ w = cc in ap given e
 
-  only-op : {env : List Value} {p : Op} {e : Expr} {k : ℕ} → Only env e (Suffix k) → Only env (op p e) (applied t p k)
-  only-op {p = p} {k = k} u o (r-op {k = j} d) = let s = u _ d in let e : k ≡ j = cc in ap (applied t p) e
-  only-op {k = k} u o (r-op-error d) = given-not-failed (suffix k) (u _ d)
+  only-op : {env : List Value} {p : Op} {e : Expr} {c : Contact} {k : ℕ} → Only env e (Suffix c k) → Only env (op p e) (applied t p c k)
+  only-op u o (r-op d) = let s = u _ d in cc
+  only-op {c = c} {k = k} u o (r-op-error d) = given-not-failed (suffix c k) (u _ d)
 
   only-op-error : {env : List Value} {p : Op} {e : Expr} {x : Error} → Only env e (Failed x) → Only env (op p e) (Failed x)
-  only-op-error u o (r-op {k = k} d) = given-not-failed (suffix k) (sym (u _ d))
+  only-op-error u o (r-op {c = c} {k = k} d) = given-not-failed (suffix c k) (sym (u _ d))
   only-op-error u o (r-op-error d) = u _ d
 
   only-then : {env : List Value} {c a b : Expr} {o : Outcome} → Only env c (Truth true) → Only env a o → Only env (ifte c a b) o

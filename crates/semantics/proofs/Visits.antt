@@ -17,7 +17,7 @@ use lib.ListN.{length, getElem?, getD, set, length-set}
 use lib.Dec as dec
 use lib.Seq.{getD-set-same, getD-set-other}
 use Rattle.semantics.specs.declared.Outcome.{Outcome}
-use Rattle.semantics.specs.Language.{Function, Program, Trace, Value, InKinds, WellKinded}
+use Rattle.semantics.specs.Language.{Function, Program, Traces, Value, InKinds, only, WellKinded}
 use Rattle.semantics.specs.Rules.{Derives}
 use Rattle.semantics.specs.Numbering.{cells, cellOf, Config, configAt}
 use Rattle.semantics.specs.Cells.{codeOf, ofKind, outcomeIn}
@@ -29,7 +29,7 @@ use Rattle.semantics.proofs.Cells.{held-code, code-held}
 
 -- ---- A table, read by configuration and by cell
 
-module _ (P : Program) (t : Trace) (T : Table) where
+module _ (P : Program) (t : Traces) (T : Table) where
   pub lookup-held : (g : ℕ) (vs : List Value) (f : Function) → getElem? P g ≡ some f
       → lookup P t T g vs ≡ outcomeIn t (f .result) (getD T (cellOf t P g vs) 0)
   unfolding lookup
@@ -47,12 +47,12 @@ module _ (P : Program) (t : Trace) (T : Table) where
   unfolding heldAt
   lookup-heldAt g vs f e h = lookup-held g vs f e ∙ rw (config-cell t P g f vs e h)
 
-held-zero : (t : Trace) (k : Option Config) → heldIn t k 0 ≡ none
+held-zero : (t : Traces) (k : Option Config) → heldIn t k 0 ≡ none
 unfolding outcomeIn
 held-zero t none = refl
 held-zero t (some k) = refl
 
-pub heldAt-zero : (P : Program) (t : Trace) (T : Table) (c : ℕ) → getD T c 0 ≡ 0 → heldAt P t T c ≡ none
+pub heldAt-zero : (P : Program) (t : Traces) (T : Table) (c : ℕ) → getD T c 0 ≡ 0 → heldAt P t T c ≡ none
 unfolding heldAt
 heldAt-zero P t T c e = rw e (held-zero t (configAt t P c))
 
@@ -62,7 +62,7 @@ if-open : (old new : Option Outcome) (o : Outcome) → ifUndecided old new ≡ s
 if-open none new o e = refl
 if-open (some a) new o e = cc
 
-module _ (P : Program) (t : Trace) (T : Table) (c : ℕ) where
+module _ (P : Program) (t : Traces) (T : Table) (c : ℕ) where
   pub stored-open : (o : Outcome) → stored P t T c ≡ some o → heldAt P t T c ≡ none
   unfolding stored
   stored-open o e = if-open (heldAt P t T c) _ o e
@@ -92,22 +92,22 @@ module _ (P : Program) (t : Trace) (T : Table) (c : ℕ) where
 un-config : {a b : Config} {x : Option Config} → x ≡ some a → x ≡ some b → a ≡ b
 un-config p q = cc
 
-held-other : (P : Program) (t : Trace) (T : Table) (c : ℕ) (o : Outcome) (j : ℕ) → j ≢ c → heldAt P t (set T c (codeOf o)) j ≡ heldAt P t T j
+held-other : (P : Program) (t : Traces) (T : Table) (c : ℕ) (o : Outcome) (j : ℕ) → j ≢ c → heldAt P t (set T c (codeOf o)) j ≡ heldAt P t T j
 unfolding heldAt
 held-other P t T c o j h = rw (getD-set-other T c j (codeOf o) 0 h)
 
-module _ (P : Program) (t : Trace) (wk : WellKinded P) (T : Table) (c : ℕ) (r : Place t P c) (o : Outcome) (s : stored P t T c ≡ some o) where
+module _ (P : Program) (t : Traces) (wk : WellKinded P) (T : Table) (c : ℕ) (r : Place t P c) (o : Outcome) (s : stored P t T c ≡ some o) where
   gives : bodyOutcome t (lookup P t T) (r .vs) (r .f .body) ≡ some o
   gives = sym (stored-body P t T c r (stored-open P t T c o s)) ∙ s
 
   pub stored-kind : dec.T (ofKind t (r .f .result) o)
   stored-kind =
-      kinded P t (lookup P t T) (lookup-kinds P t T) (r .f .params) (r .vs) (r .areIn) (r .f .body) (r .f .result) o
+      kinded P t (lookup P t T) (lookup-kinds P t T) (r .f .params) (r .vs) (r .areIn) (r .f .body) (only (r .f .result)) o
       (wk (r .g) (r .f) (r .isFun)) gives
 
   pub stored-derives : SoundCalls P t (lookup P t T) → Derives P t (r .vs) (r .f .body) o
   stored-derives ok =
-      sound P t (lookup P t T) (lookup-kinds P t T) ok (r .f .params) (r .vs) (r .areIn) (r .f .body) (r .f .result) o
+      sound P t (lookup P t T) (lookup-kinds P t T) ok (r .f .params) (r .vs) (r .areIn) (r .f .body) (only (r .f .result)) o
       (wk (r .g) (r .f) (r .isFun)) gives
 
   held-same : c < length T → heldAt P t (set T c (codeOf o)) c ≡ some o
@@ -115,12 +115,12 @@ module _ (P : Program) (t : Trace) (wk : WellKinded P) (T : Table) (c : ℕ) (r 
 
 -- ---- The invariant of a filling
 
-pub record Good (P : Program) (t : Trace) (T : Table) : Type 0 where
+pub record Good (P : Program) (t : Traces) (T : Table) : Type 0 where
   pub long : cells t P ≤ length T
   pub clean : (c : ℕ) → c < cells t P → heldAt P t T c ≡ none → getD T c 0 ≡ 0
   pub sound : SoundCalls P t (lookup P t T)
 
-module _ (P : Program) (t : Trace) (wk : WellKinded P) (T : Table) (c : ℕ) (r : Place t P c) (o : Outcome)
+module _ (P : Program) (t : Traces) (wk : WellKinded P) (T : Table) (c : ℕ) (r : Place t P c) (o : Outcome)
     (s : stored P t T c ≡ some o) (lt : c < length T) where
   sound-set : SoundCalls P t (lookup P t T) → SoundCalls P t (lookup P t (set T c (codeOf o)))
   sound-set ok g vs f x e h l = go (ℕ-discrete (cellOf t P g vs) c)
@@ -144,7 +144,7 @@ module _ (P : Program) (t : Trace) (wk : WellKinded P) (T : Table) (c : ℕ) (r 
       go (yes a) = cc (held-same P t wk T c r o s lt, a, h)
       go (no n) = getD-set-other T c j (codeOf o) 0 n ∙ ok j l (sym (held-other P t T c o j n) ∙ h)
 
-pub visit-good : (P : Program) (t : Trace) → WellKinded P → (T : Table) (c : ℕ) → c < cells t P → Good P t T → Good P t (visit P t c T)
+pub visit-good : (P : Program) (t : Traces) → WellKinded P → (T : Table) (c : ℕ) → c < cells t P → Good P t T → Good P t (visit P t c T)
 visit-good P t wk T c lt ok = go (stored P t T c) refl
   where
     go : (s : Option Outcome) → stored P t T c ≡ s → Good P t (visit P t c T)
@@ -199,14 +199,14 @@ count-falls h k c a p q e (suc n) l = go (λ m. count-falls h k c a p q e n m) (
     go ih (no y) = let s = ih (omega arith) in rw (e n y) (omega arith)
 
 -- how many cells hold no outcome
-unfoldable pub undecided : Program → Trace → Table → ℕ
+unfoldable pub undecided : Program → Traces → Table → ℕ
 undecided P t T = countNone (heldAt P t T) (cells t P)
 
-pub undecided-le : (P : Program) (t : Trace) (T : Table) → undecided P t T ≤ cells t P
+pub undecided-le : (P : Program) (t : Traces) (T : Table) → undecided P t T ≤ cells t P
 unfolding undecided
 undecided-le P t T = count-le (heldAt P t T) (cells t P)
 
-pub undecided-visit : (P : Program) (t : Trace) → WellKinded P → (T : Table) (c : ℕ) → c < cells t P → cells t P ≤ length T
+pub undecided-visit : (P : Program) (t : Traces) → WellKinded P → (T : Table) (c : ℕ) → c < cells t P → cells t P ≤ length T
     → undecided P t (visit P t c T) + oneIf (stored P t T c) ≡ undecided P t T
 unfolding undecided
 undecided-visit P t wk T c lt len = go (stored P t T c) refl

@@ -8,6 +8,7 @@
 --   Passes     the passes from zeros, and the pass count
 --   Verdicts   the verdict, and its number
 --   Demand     what evaluating owes (demand 3)
+--   Handed     the traces that an operation is handed
 pub mod Language
 pub mod Rules
 pub mod Numbering
@@ -17,3 +18,4 @@ pub mod Visits
 pub mod Passes
 pub mod Verdicts
 pub mod Demand
+pub mod Handed

@@ -1,13 +1,14 @@
 -- The verdict, of document 01: what main's cell decides when the passes end.
-use Prim.Native.Nat.{ℕ}
+use Prim.Native.Nat.{ℕ, _-_}
 use mathlib.Core.List.{[], List, _∷_}
 use mathlib.Core.Option.{Option, none, some}
-use lib.ListN.{length, getD}
+use lib.ListN.{getD}
 use Rattle.semantics.specs.declared.Outcome.{Outcome}
 use Rattle.semantics.specs.declared.Decision.{Decision}
 use Rattle.semantics.specs.declared.Decision.the-variants.{Forever, Decided}
 use Rattle.semantics.specs.declared.Verdict.{Verdict}
-use Rattle.semantics.specs.Language.{truth, Program, Trace}
+use Rattle.semantics.specs.Language.{truth, Program, Traces}
+use Rattle.semantics.specs.Numbering.{size}
 use Rattle.semantics.specs.Cells.{codeOf, outcomeIn}
 use Rattle.semantics.specs.Passes.{passCount, finalTable}
 
@@ -26,8 +27,12 @@ verdictValues v = verdictNumber (v .decision) ∷ v .passes ∷ []
 
 -- what main's cell decides: main gives a Bool
 unfoldable pub mainDecision : ℕ → Decision
-mainDecision cell = decisionOf (outcomeIn [] truth cell)
+mainDecision cell = decisionOf (outcomeIn (record { ofRam = []; ofGuard = [] }) truth cell)
 
--- 'main's cell on the whole trace is cell n'
-unfoldable pub verdictOf : Program → Trace → Verdict
-verdictOf P t = record { decision = mainDecision (getD (finalTable P t) (length t) 0); passes = passCount P t }
+-- 'main's cell on the whole trace is cell n'; 'on both whole traces [it] is the last of main's cells'
+abbrev pub mainCell : Traces → Program → ℕ
+mainCell t [] = 0
+mainCell t (f ∷ fs) = size t (f .params) - 1
+
+unfoldable pub verdictOf : Program → Traces → Verdict
+verdictOf P t = record { decision = mainDecision (getD (finalTable P t) (mainCell t P) 0); passes = passCount P t }

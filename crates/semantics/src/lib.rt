@@ -1,5 +1,5 @@
-// What a rule comes to: the outcomes of document 01 as enums, the verdict that holds them, and the
-// numbers that stand for them in a cell of the table and in a record.
+// What a rule is over and what it comes to: contacts, sorts of programs and outcomes as enums, the verdict that holds an outcome, and
+// the numbers that stand for them in a cell of the table and in a record.
 ghost use mathlib.Core.Path.{_≡_};
 ghost use Rattle.semantics.specs.Cells.{codeOf};
 ghost use Rattle.semantics.specs.Verdicts.{verdictNumber, mainDecision};
@@ -7,16 +7,28 @@ ghost use Rattle.semantics.specs.Verdicts.{verdictNumber, mainDecision};
 // The most cells of a table.
 pub const MOST_CELLS: u64 = 16777216;
 
+// The contacts of a press: that of the ram, and that of the guard.
+pub enum Contact {
+    Ram,
+    Guard,
+}
+
+// The sorts of programs: over the ram's contact, and over both.
+pub enum Sort {
+    One,
+    Two,
+}
+
 // 'head of empty' and 'tail of empty'.
 pub enum Error {
     Head,
     Tail,
 }
 
-// An outcome: a Bool, a suffix of the trace by its length, or an error with its sort.
+// An outcome: a Bool, a suffix of a contact's trace by its length, or an error with its sort.
 pub enum Outcome {
     Truth(bool),
-    Suffix(u16),
+    Suffix(Contact, u16),
     Failed(Error),
 }
 
@@ -38,7 +50,7 @@ pub fn code(outcome: Outcome) -> u32
 {
     match outcome {
         Outcome::Truth(truth) => if truth { 2 } else { 1 },
-        Outcome::Suffix(length) => 5 + (length as u32),
+        Outcome::Suffix(_, length) => 5 + (length as u32),
         Outcome::Failed(error) => match error {
             Error::Head => 3,
             Error::Tail => 4,

@@ -1,11 +1,23 @@
-// The smallest forms of program bytes: what a header says, and which node an expression byte stands for. Both are answered
-// for all bytes.
+// The smallest forms of program bytes: what the function count byte and a header say, which node an expression byte stands for,
+// and kinds as numbers. All are answered for all bytes.
 mod headers;
+mod kinds;
 mod nodes;
 
+pub use headers::count_of;
 pub use headers::header_at;
+pub use headers::header_bytes;
+pub use headers::sort_of;
+pub use kinds::GUARD;
+pub use kinds::RAM;
+pub use kinds::TRUTH;
+pub use kinds::kind_at;
+pub use kinds::kind_by;
 pub use nodes::node_of;
 use refusal::Refusal;
+
+// The mark of two contacts in a function count byte.
+pub const TWO_MARK: u8 = 0x80;
 
 // The limits of document 01.
 pub const MOST_FUNCTIONS: u8 = 32;
@@ -23,6 +35,7 @@ pub enum Node {
     False,
     True,
     Empty,
+    EmptyGuard,
     Param(u8),
     Head,
     Tail,
@@ -33,10 +46,12 @@ pub enum Node {
     Unknown,
 }
 
-// A function's header: the number of parameters, the kinds byte and the body length.
+// A function's header: the number of parameters, the kinds byte, the guard byte (0 where there is none) and the body
+// length.
 pub struct Header {
     pub params: u8,
     pub kinds: u8,
+    pub guard: u8,
     pub length: u16,
 }
 

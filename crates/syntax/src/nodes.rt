@@ -11,6 +11,7 @@ pub fn node_of(byte: u8) -> Node
         0x00 => Node::False,
         0x01 => Node::True,
         0x02 => Node::Empty,
+        0x03 => Node::EmptyGuard,
         0x10..=0x13 => Node::Param(byte - 0x10),
         0x20 => Node::Head,
         0x21 => Node::Tail,

@@ -1,29 +1,36 @@
 //! The limit of 16,777,216 cells, and numbers of cells that 32 bits do not hold; the smallest record, and the
 //! longest listing.
 
-use super::super::generate::traces::{garbage, packed, Trace};
+use super::super::generate::traces::garbage;
+use super::super::oracle::program::{self, Contacts};
 use super::super::oracle::record::{written_length, Content};
-use super::super::oracle::{program, search, MOST_CELLS};
+use super::super::oracle::trace::{packed, Samples};
+use super::super::oracle::{search, MOST_CELLS};
 use super::{evaluation, listing, record, Bench, Compared};
 
 /// A table longer than the limit.
 const LONG: usize = 17_000_000;
-/// Main says whether the list is empty.
-const MAIN: [u8; 6] = [1, 1, 2, 0, 0x22, 0x10];
-/// The other functions, parameters and kinds byte: with them 62 samples need exactly 16,777,216 cells.
-const FULL: [(u8, u8); 8] = [
-    (4, 0x0F),
-    (4, 0x0E),
-    (4, 0x0D),
-    (4, 0x09),
-    (3, 0x03),
-    (2, 0x02),
-    (1, 0x01),
-    (0, 0x00),
+/// Functions beside main: parameters, the bits of the lists and of the guard's lists.
+type Others = [(u8, u8, u8)];
+/// Functions that with main need exactly 16,777,216 cells, and on how many samples of each contact: over two contacts
+/// main alone needs them on the longest traces.
+const FULL: [(Contacts, &Others, usize); 2] = [
+    (
+        Contacts::One,
+        &[
+            (4, 0x0F, 0),
+            (4, 0x0E, 0),
+            (4, 0x0D, 0),
+            (4, 0x09, 0),
+            (3, 0x03, 0),
+            (2, 0x02, 0),
+            (1, 0x01, 0),
+            (0, 0x00, 0),
+        ],
+        62,
+    ),
+    (Contacts::Two, &[], 4_095),
 ];
-const FULL_SAMPLES: usize = 62;
-/// The shortest program: main gives True.
-const SHORTEST: [u8; 6] = [1, 1, 1, 1, 0, 1];
 /// The longest archive that is listed.
 const LONGEST_ARCHIVE: usize = 32_768;
 
@@ -44,12 +51,23 @@ pub fn run(bench: &mut Bench) -> Compared {
     }
 }
 
-/// A record of the shortest program on so many samples.
-fn short(samples: usize, verdict: u8) -> Vec<u8> {
+/// So many samples of each contact, all 1.
+fn ones(contacts: Contacts, n: usize) -> Samples {
+    Samples {
+        ram: vec![true; n],
+        guard: (contacts == Contacts::Two).then(|| vec![true; n]),
+    }
+}
+
+/// A record of the shortest program, in which main gives True, on so many samples.
+fn short(contacts: Contacts, n: usize, verdict: u8) -> Vec<u8> {
+    let program: &[u8] = match contacts {
+        Contacts::One => &[1, 1, 1, 1, 0, 1],
+        Contacts::Two => &[0x81, 2, 3, 2, 1, 0, 1],
+    };
     let content = Content {
-        program: SHORTEST.to_vec(),
-        trace: trace(samples).bytes,
-        n: samples as u16,
+        program: program.to_vec(),
+        traces: packed(&ones(contacts, n)),
         label: None,
         verdict,
         passes: 2,
@@ -57,60 +75,73 @@ fn short(samples: usize, verdict: u8) -> Vec<u8> {
     content.bytes()
 }
 
-/// The smallest record, and its bytes without the first.
+/// The smallest record of each sort, and its bytes without the first.
 fn smallest(bench: &mut Bench) -> Compared {
-    let record = short(0, 2);
-    assert_eq!(record.len(), 19);
-    for bytes in [&record[..], &record[1..]] {
-        record::compare_read(bench, bytes)?;
-        record::compare_check(bench, bytes, vec![9; 2])?;
+    for (contacts, length) in [(Contacts::One, 19), (Contacts::Two, 22)] {
+        let record = short(contacts, 0, 2);
+        assert_eq!(record.len(), length);
+        for bytes in [&record[..], &record[1..]] {
+            record::compare_read(bench, bytes)?;
+            record::compare_check(bench, bytes, vec![9; 2])?;
+        }
     }
     Ok(())
 }
 
-/// As many records as an archive can have, first with their own verdict, then with the longest words. The bytes
-/// that the smallest leave lengthen some by two, a trace of ten samples, and so n by a digit.
+/// As many records of a sort as an archive can have, first with their own verdict, then with the longest words. The
+/// bytes that the smallest leave lengthen some by two bytes for each contact, a trace of ten samples, and so n by a
+/// digit.
 fn longest_listing(bench: &mut Bench, path: &str) -> Compared {
-    for verdict in [2, 0] {
-        let smallest = short(0, verdict);
-        let records = LONGEST_ARCHIVE / smallest.len();
-        let longer = LONGEST_ARCHIVE % smallest.len() / 2;
-        let mut archive = short(10, verdict).repeat(longer);
-        archive.extend(smallest.repeat(records - longer));
-        assert_eq!(archive.len(), LONGEST_ARCHIVE);
-        listing::compare(bench, path, &archive)?;
+    for contacts in Contacts::ALL {
+        for verdict in [2, 0] {
+            let smallest = short(contacts, 0, verdict);
+            let more = short(contacts, 10, verdict).len() - smallest.len();
+            let records = LONGEST_ARCHIVE / smallest.len();
+            let longer = LONGEST_ARCHIVE % smallest.len() / more;
+            let mut archive = short(contacts, 10, verdict).repeat(longer);
+            archive.extend(smallest.repeat(records - longer));
+            assert!(LONGEST_ARCHIVE - archive.len() < more);
+            listing::compare(bench, path, &archive)?;
+        }
     }
     Ok(())
 }
 
-/// Main, and functions of the given kinds that all give True.
-fn program_of(kinds: &[(u8, u8)]) -> Vec<u8> {
-    let mut program = vec![1 + kinds.len() as u8];
-    program.extend(MAIN);
-    for (count, kinds) in kinds {
-        program.extend([*count, *kinds, 1, 0, 1]);
+/// Main, which says whether the list is empty, and functions that all give True.
+fn program_of(contacts: Contacts, others: &Others) -> Vec<u8> {
+    let count = 1 + others.len() as u8;
+    let mut program = match contacts {
+        Contacts::One => vec![count, 1, 1, 2, 0, 0x22, 0x10],
+        Contacts::Two => vec![0x80 + count, 2, 3, 2, 2, 0, 0x22, 0x10],
+    };
+    for (count, lists, guards) in others {
+        program.extend([*count, *lists]);
+        program.extend((contacts == Contacts::Two).then_some(*guards));
+        program.extend([1, 0, 1]);
     }
     program
 }
 
-/// A trace of so many samples, all 1.
-fn trace(n: usize) -> Trace {
-    packed(&vec![true; n])
-}
-
 /// The cells a program needs.
-fn needed(program: &[u8], n: usize) -> u64 {
+fn needed(program: &[u8], samples: &Samples) -> u64 {
     let functions = program::check(program).expect("the program is accepted");
-    search::cells_needed(&functions, n)
+    search::cells_needed(&functions, samples)
 }
 
 /// More cells needed than the limit or than 32 bits hold, and few lent.
 fn few_cells(bench: &mut Bench) -> Compared {
-    for (count, kinds) in [(2, 0x03), (3, 0x07), (4, 0x0F)] {
-        for functions in [1, 31] {
-            let program = program_of(&vec![(count, kinds); functions]);
-            for cells in [1_000, 5_000] {
-                three(bench, &program, 4_095, cells)?;
+    for contacts in Contacts::ALL {
+        let guards = contacts as u8;
+        for other in [
+            (2, 0x03, guards),
+            (3, 0x07, 5 * guards),
+            (4, 0x0F, 14 * guards),
+        ] {
+            for functions in [1, 31] {
+                let program = program_of(contacts, &vec![other; functions]);
+                for cells in [1_000, 5_000] {
+                    three(bench, &program, &ones(contacts, 4_095), cells)?;
+                }
             }
         }
     }
@@ -119,40 +150,48 @@ fn few_cells(bench: &mut Bench) -> Compared {
 
 /// One cell more than the limit, and a table that would hold them.
 fn long_table(bench: &mut Bench) -> Compared {
-    let mut kinds = FULL.to_vec();
-    kinds.push((0, 0));
-    let program = program_of(&kinds);
-    assert_eq!(needed(&program, FULL_SAMPLES), MOST_CELLS + 1);
-    three(bench, &program, FULL_SAMPLES, LONG)
+    for (contacts, others, n) in FULL {
+        let program = program_of(contacts, &[others, &[(0, 0, 0)]].concat());
+        let samples = ones(contacts, n);
+        assert_eq!(needed(&program, &samples), MOST_CELLS + 1);
+        three(bench, &program, &samples, LONG)?;
+    }
+    Ok(())
 }
 
 /// Exactly as many cells as the limit.
 fn full_table(bench: &mut Bench) -> Compared {
-    let program = program_of(&FULL);
-    assert_eq!(needed(&program, FULL_SAMPLES), MOST_CELLS);
-    let table = garbage(&mut bench.random, MOST_CELLS as usize + 1);
-    evaluation::compare(bench, &program, &trace(FULL_SAMPLES), table)
+    for (contacts, others, n) in FULL {
+        let program = program_of(contacts, others);
+        let samples = ones(contacts, n);
+        assert_eq!(needed(&program, &samples), MOST_CELLS);
+        let table = garbage(&mut bench.random, MOST_CELLS as usize + 1);
+        evaluation::compare(bench, &program, &packed(&samples), table)?;
+    }
+    Ok(())
 }
 
 /// Evaluating, recording and checking with a table of so many cells.
-fn three(bench: &mut Bench, program: &[u8], n: usize, cells: usize) -> Compared {
+fn three(bench: &mut Bench, program: &[u8], samples: &Samples, cells: usize) -> Compared {
     let table = garbage(&mut bench.random, cells);
-    evaluation::compare(bench, program, &trace(n), table.clone())?;
-    for label in [None, Some([1; 8])] {
-        let content = Content {
-            program: program.to_vec(),
-            trace: trace(n).bytes,
-            n: n as u16,
-            label,
-            verdict: 1,
-            passes: 2,
-        };
+    let traces = packed(samples);
+    evaluation::compare(bench, program, &traces, table.clone())?;
+    let mut content = Content {
+        program: program.to_vec(),
+        traces: traces.clone(),
+        label: None,
+        verdict: 1,
+        passes: 2,
+    };
+    record::compare_check(bench, &content.bytes(), table.clone())?;
+    if traces.contacts() == Contacts::One {
+        content.label = Some([1; 8]);
         record::compare_check(bench, &content.bytes(), table.clone())?;
     }
     let order = record::Order {
         program: program.to_vec(),
-        trace: trace(n),
-        out: vec![9; written_length(program, &trace(n).bytes)],
+        out: vec![9; written_length(program, &traces)],
+        traces,
         table,
     };
     record::compare_write(bench, order)

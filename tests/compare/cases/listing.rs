@@ -1,7 +1,7 @@
 //! The listing executable, run on archives through standard input.
 
 use super::super::generate::records;
-use super::super::oracle;
+use super::super::oracle::{self, program::Contacts};
 use super::{executable, hex, Bench, Compared};
 
 /// In every so many rounds one archive is listed.
@@ -40,6 +40,6 @@ pub fn compare(bench: &mut Bench, path: &str, archive: &[u8]) -> Compared {
         let case = hex(archive);
         return Err(format!("printed\n{have}oracle\n{want}archive {case}"));
     }
-    bench.report.count(bench.kind, 0);
+    bench.report.count(bench.kind, Contacts::One, 0);
     Ok(())
 }

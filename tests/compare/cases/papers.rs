@@ -1,12 +1,16 @@
 //! The cases that documents 01 and 02 themselves give, with the answers they give.
 
 use super::super::generate::rings::Ring;
-use super::super::generate::traces::Trace;
-use super::super::oracle::{self, record::OLD_RELEASE};
+use super::super::oracle;
+use super::super::oracle::record::OLDER_RELEASES;
+use super::super::oracle::trace::{Trace, Traces};
 use super::{evaluation, listing, program, record, ring, Bench, Compared};
 
-/// A program tried: bytes, trace, n, verdict, passes.
-type Row = (&'static [u8], &'static [u8], u64, u8, u32);
+/// A packed trace, and its number of samples.
+type Packed = (&'static [u8], u64);
+
+/// A program tried: bytes, the traces of the ram and of the guard, verdict, passes.
+type Row = (&'static [u8], Packed, Option<Packed>, u8, u32);
 
 const A: &[u8] = &[1, 1, 1, 2, 0, 0x22, 0x10];
 const B: &[u8] = &[1, 1, 1, 2, 0, 0x80, 0x10];
@@ -16,15 +20,48 @@ const D: &[u8] = &[
 ];
 const E: &[u8] = &[2, 1, 1, 1, 0, 0x81, 0, 0, 1, 0, 1];
 const F: &[u8] = &[2, 1, 1, 3, 0, 0x81, 0x80, 0x10, 1, 0, 1, 0, 1];
-const H: &[u8] = &[1, 1, 1, 2, 0, 0x24, 0x10];
 
-const ROWS: [Row; 6] = [
-    (A, &[5], 3, 1, 2),
-    (B, &[5], 3, 0, 1),
-    (C, &[], 0, 3, 2),
-    (D, &[7], 3, 2, 2),
-    (E, &[], 0, 2, 3),
-    (F, &[], 0, 0, 2),
+/// The guard's list is empty.
+const GUARD_NULL: &[u8] = &[0x81, 2, 3, 2, 2, 0, 0x22, 0x11];
+/// The first sample of the guard where the ram's list is empty, else of the ram.
+const EITHER: &[u8] = &[0x81, 2, 3, 2, 6, 0, 0x20, 0x23, 0x22, 0x10, 0x11, 0x10];
+/// The ram may not move while the guard is open.
+const PRESS: &[u8] = &[
+    0x81, 2, 3, 2, 21, 0, 0x23, 0x22, 0x10, 1, 0x23, 0x20, 0x10, 0x23, 0x20, 0x11, 0x80, 0x21,
+    0x10, 0x21, 0x11, 0, 0x80, 0x21, 0x10, 0x21, 0x11,
+];
+
+const NONE: Packed = (&[], 0);
+const ROWS: [Row; 13] = [
+    (A, (&[5], 3), None, 1, 2),
+    (B, (&[5], 3), None, 0, 1),
+    (C, NONE, None, 3, 2),
+    (D, (&[7], 3), None, 2, 2),
+    (E, NONE, None, 2, 3),
+    (F, NONE, None, 0, 2),
+    (GUARD_NULL, (&[5], 3), Some(NONE), 2, 2),
+    (GUARD_NULL, NONE, Some((&[5], 3)), 1, 2),
+    (EITHER, NONE, Some((&[1], 1)), 2, 2),
+    (EITHER, (&[2], 2), Some((&[1], 1)), 1, 2),
+    (PRESS, (&[6], 4), Some((&[7], 4)), 2, 2),
+    (PRESS, (&[6], 4), Some((&[5], 4)), 1, 2),
+    (PRESS, (&[6], 4), Some((&[1], 1)), 3, 2),
+];
+
+/// Programs that are refused, and their numbers: those of document 01, and those that follow the sort.
+const REFUSED: [(&[u8], u32); 12] = [
+    (&[1, 1, 1, 2, 0, 0x22], 9),
+    (&[1, 1, 1, 2, 0, 0x24, 0x10], 14),
+    (&[0x80, 2, 3, 2, 1, 0, 1], 6),
+    (&[0xA1, 2, 3, 2, 1, 0, 1], 6),
+    (&[0x81, 2, 3, 2, 1], 7),
+    (&[0x82, 2, 3, 2, 1, 0, 1, 1, 0, 1, 1, 0, 1], 8),
+    (&[0x82, 2, 3, 2, 1, 0, 1, 0, 0x10, 0x30, 1, 0, 2], 8),
+    (&[0x81, 2, 3, 3, 1, 0, 1], 11),
+    (&[0x81, 2, 3, 0, 1, 0, 1], 11),
+    (&[1, 1, 1, 2, 0, 0x22, 3], 15),
+    (&[0x81, 2, 3, 2, 1, 0, 3], 16),
+    (&[0x81, 2, 3, 2, 3, 0, 0x80, 0x11, 0x10], 16),
 ];
 
 /// The archive that is listed: A on 101, in format 1.
@@ -39,6 +76,11 @@ const RECORDED: &[u8] = &[
     1, 1, 1, 2, 0, 0x22, 0x10, 5, 1, 2, 0, 0, 0, 0x0D, 0, 6, 0, 3, 0, 2, 0x52,
 ];
 
+/// The guard's list is empty, on 101 and none, in format 3.
+const GUARDED: &[u8] = &[
+    0x81, 2, 3, 2, 2, 0, 0x22, 0x11, 5, 2, 2, 0, 0, 0, 0x0E, 0, 6, 0, 3, 0, 0, 0, 3, 0x52,
+];
+
 /// All of them, in the first round.
 pub fn run(bench: &mut Bench) -> Compared {
     if bench.round > 0 {
@@ -47,9 +89,12 @@ pub fn run(bench: &mut Bench) -> Compared {
     for row in ROWS {
         tried(bench, row)?;
     }
-    refused(bench, &A[..6], 9)?;
-    refused(bench, H, 14)?;
+    for (program, number) in REFUSED {
+        refused(bench, program, number)?;
+    }
     cells(bench)?;
+    sorts(bench)?;
+    both_traces(bench)?;
     rings(bench)?;
     padding_set(bench)?;
     recorded(bench)?;
@@ -66,55 +111,97 @@ fn stated<T: PartialEq + std::fmt::Debug>(have: T, want: T) -> Compared {
     }
 }
 
+/// Lent traces.
+fn traces(ram: (&[u8], u64), guard: Option<(&[u8], u64)>) -> Traces {
+    let trace = |(bytes, n): (&[u8], u64)| Trace {
+        bytes: bytes.to_vec(),
+        n,
+    };
+    Traces {
+        ram: trace(ram),
+        guard: guard.map(trace),
+    }
+}
+
 /// A row that is evaluated.
 fn tried(bench: &mut Bench, row: Row) -> Compared {
-    let (program, bytes, n, verdict, passes) = row;
-    let mut table = vec![0; 100];
-    let answer = oracle::evaluate(program, bytes, n, &mut table);
+    let (program, ram, guard, verdict, passes) = row;
+    let traces = traces(ram, guard);
+    let answer = oracle::evaluate(program, &traces, &mut [0; 100]);
     stated(
         answer.map(|it| (it.verdict, it.passes)),
         Ok((verdict, passes)),
     )?;
-    let trace = Trace {
-        bytes: bytes.to_vec(),
-        n,
-    };
     program::compare(bench, program)?;
-    evaluation::compare(bench, program, &trace, vec![7; 100])
+    evaluation::compare(bench, program, &traces, vec![7; 100])
 }
 
-/// A row that is refused.
+/// A program that is refused.
 fn refused(bench: &mut Bench, bytes: &[u8], number: u32) -> Compared {
     stated(oracle::program::check(bytes).map(|_| ()), Err(number))?;
     program::compare(bench, bytes)
 }
 
+/// An evaluation and a record that are refused.
+fn not_evaluated(bench: &mut Bench, program: &[u8], traces: Traces, number: u32) -> Compared {
+    let answer = oracle::evaluate(program, &traces, &mut [9; 16]);
+    stated(answer.map(|_| ()), Err(number))?;
+    evaluation::compare(bench, program, &traces, vec![9; 16])?;
+    let order = record::Order {
+        program: program.to_vec(),
+        traces,
+        table: vec![9; 16],
+        out: vec![9; 64],
+    };
+    record::compare_write(bench, order)
+}
+
 /// A on 101 with 3 cells and with 4.
 fn cells(bench: &mut Bench) -> Compared {
-    let trace = Trace {
-        bytes: vec![5],
-        n: 3,
-    };
-    let few = oracle::evaluate(A, &[5], 3, &mut [9; 3]);
+    let traces = traces((&[5], 3), None);
+    let few = oracle::evaluate(A, &traces, &mut [9; 3]);
     stated(few.map(|_| ()), Err(21))?;
-    evaluation::compare(bench, A, &trace, vec![9; 3])?;
-    evaluation::compare(bench, A, &trace, vec![9; 4])
+    evaluation::compare(bench, A, &traces, vec![9; 3])?;
+    evaluation::compare(bench, A, &traces, vec![9; 4])
+}
+
+/// Programs with traces of the other sort, and in formats of the other sort.
+fn sorts(bench: &mut Bench) -> Compared {
+    not_evaluated(bench, A, traces((&[5], 3), Some(NONE)), 6)?;
+    not_evaluated(bench, GUARD_NULL, traces((&[5], 3), None), 6)?;
+    // a byte more or less in the program only moves its first byte
+    changed(bench, RECORDED, 0, 0x81, 6)?;
+    changed(bench, ARCHIVE, 0, 0x81, 6)?;
+    changed(bench, GUARDED, 0, 1, 6)
+}
+
+/// 20 of either trace goes before 23 of either.
+fn both_traces(bench: &mut Bench) -> Compared {
+    let sound: Packed = (&[5], 3);
+    let padding: Packed = (&[13], 3);
+    let long: Packed = (&[5, 0], 3);
+    for (ram, guard, number) in [
+        (padding, sound, 23),
+        (sound, padding, 23),
+        (padding, padding, 23),
+        (long, sound, 20),
+        (sound, long, 20),
+        (long, padding, 20),
+        (padding, long, 20),
+    ] {
+        not_evaluated(bench, GUARD_NULL, traces(ram, Some(guard)), number)?;
+    }
+    Ok(())
 }
 
 /// Each bit above the last sample of A's trace alone, lent and in a record.
 fn padding_set(bench: &mut Bench) -> Compared {
     for bit in 3..8 {
-        let trace = Trace {
-            bytes: vec![5 | 1 << bit],
-            n: 3,
-        };
-        let answer = oracle::evaluate(A, &trace.bytes, 3, &mut [9; 4]);
-        stated(answer.map(|_| ()), Err(23))?;
-        evaluation::compare(bench, A, &trace, vec![9; 4])?;
-        for record in [ARCHIVE, RECORDED] {
-            changed(bench, record, A.len(), 5 | 1 << bit, 23)?;
+        let trace = [5 | 1 << bit];
+        not_evaluated(bench, A, traces((&trace, 3), None), 23)?;
+        for (record, at) in [(ARCHIVE, 7), (RECORDED, 7), (GUARDED, 8)] {
+            changed(bench, record, at, 5 | 1 << bit, 23)?;
         }
-        record::compare_write(bench, order(trace))?;
     }
     Ok(())
 }
@@ -126,16 +213,6 @@ fn changed(bench: &mut Bench, record: &[u8], at: usize, byte: u8, number: u32) -
     stated(oracle::record::read(&bytes).map(|_| ()), Err(number))?;
     record::compare_read(bench, &bytes)?;
     record::compare_check(bench, &bytes, vec![9; 5])
-}
-
-/// An order of a record of A, with as much room as it takes on 101.
-fn order(trace: Trace) -> record::Order {
-    record::Order {
-        program: A.to_vec(),
-        trace,
-        table: vec![9; 5],
-        out: vec![9; RECORDED.len()],
-    }
 }
 
 /// Ring lengths at the limits.
@@ -155,26 +232,46 @@ fn rings(bench: &mut Bench) -> Compared {
     Ok(())
 }
 
-/// A on 101 is recorded in format 2, which a release without request 02 refuses by 2.
+/// A on 101 is recorded in format 2, which a release without request 02 refuses by 2; on the traces of two contacts
+/// a record is of format 3, which a release without request 05 refuses by 2 too.
 fn recorded(bench: &mut Bench) -> Compared {
-    let mut out = [0; RECORDED.len()];
-    let written = oracle::record::write(A, &[5], 3, &mut [0; 4], &mut out);
-    stated(written.map(|(length, _)| length), Ok(RECORDED.len()))?;
-    stated(&out[..], RECORDED)?;
-    let before = oracle::record::read_formats(OLD_RELEASE, RECORDED);
-    stated(before.map(|_| ()), Err(2))?;
-    let trace = Trace {
-        bytes: vec![5],
-        n: 3,
-    };
-    record::compare_write(bench, order(trace))
+    let on_one = traces((&[5], 3), None);
+    let on_two = traces((&[5], 3), Some(NONE));
+    for (program, traces, record, refusing) in [
+        (A, on_one, RECORDED, 1),
+        (GUARD_NULL, on_two, GUARDED, OLDER_RELEASES.len()),
+    ] {
+        let mut out = vec![0; record.len()];
+        let written = oracle::record::write(program, &traces, &mut [0; 4], &mut out);
+        stated(written.map(|(length, _)| length), Ok(record.len()))?;
+        stated(&out[..], record)?;
+        for formats in &OLDER_RELEASES[..refusing] {
+            let before = oracle::record::read_formats(formats, record);
+            stated(before.map(|_| ()), Err(2))?;
+        }
+        for room in [record.len() - 1, record.len()] {
+            let order = record::Order {
+                program: program.to_vec(),
+                traces: traces.clone(),
+                table: vec![9; 5],
+                out: vec![9; room],
+            };
+            record::compare_write(bench, order)?;
+        }
+    }
+    Ok(())
 }
 
-/// The parts of both records: a label of zeros, and none.
+/// The parts of the records: a label of zeros, none, and none with a guard trace of no byte.
 fn labels(bench: &mut Bench) -> Compared {
-    let labelled = [0, 7, 7, 1, 3, 8, 1, 2, 0, 1, 8];
-    let unlabelled = [0, 7, 7, 1, 3, 0, 1, 2, 0, 2, 0];
-    for (record, parts) in [(ARCHIVE, labelled), (RECORDED, unlabelled)] {
+    let labelled = [0, 7, 7, 1, 3, 8, 1, 2, 0, 1, 8, 0, 0, 0];
+    let unlabelled = [0, 7, 7, 1, 3, 0, 1, 2, 0, 2, 0, 0, 0, 0];
+    let guarded = [0, 8, 8, 1, 3, 0, 2, 2, 0, 3, 0, 9, 0, 0];
+    for (record, parts) in [
+        (ARCHIVE, labelled),
+        (RECORDED, unlabelled),
+        (GUARDED, guarded),
+    ] {
         let read = oracle::record::read(record);
         stated(read.map(|it| it.numbers()), Ok(parts))?;
         record::compare_read(bench, record)?;
@@ -183,29 +280,38 @@ fn labels(bench: &mut Bench) -> Compared {
     Ok(())
 }
 
-/// Each record with a format byte that is not its own.
+/// Each record with a format byte that is not its own, and the ends of one of format 3: 1 asks ten bytes of that.
 fn formats(bench: &mut Bench) -> Compared {
-    for (record, other) in [(ARCHIVE, 2), (RECORDED, 1)] {
+    for (record, others) in [(ARCHIVE, [2, 3]), (RECORDED, [1, 3]), (GUARDED, [1, 2])] {
         let at = record.len() - 2;
-        changed(bench, record, at, other, 3)?;
+        for other in others {
+            changed(bench, record, at, other, 3)?;
+        }
         changed(bench, record, at, 0, 2)?;
-        changed(bench, record, at, 3, 2)?;
+        changed(bench, record, at, 4, 2)?;
+    }
+    for (length, number) in [(7, 1), (8, 1), (9, 1), (10, 3)] {
+        let bytes = &GUARDED[GUARDED.len() - length..];
+        stated(oracle::record::read(bytes).map(|_| ()), Err(number))?;
+        record::compare_read(bench, bytes)?;
+        record::compare_check(bench, bytes, vec![9; 5])?;
     }
     Ok(())
 }
 
-/// The archive that is listed, the same contents in format 2, both end to end, and no record.
+/// The archive that is listed, the same contents in format 2, a record of format 3, all end to end, and no record.
 fn archives(bench: &mut Bench) -> Compared {
     let archives = [
         (ARCHIVE.to_vec(), LISTING),
         (RECORDED.to_vec(), "1 21 3 no agrees\nend 1\n"),
+        (GUARDED.to_vec(), "1 24 3 0 yes agrees\nend 1\n"),
         (
-            [ARCHIVE, RECORDED].concat(),
-            "1 21 3 no agrees\n2 29 3 no agrees\nend 2\n",
+            [ARCHIVE, RECORDED, GUARDED].concat(),
+            "1 24 3 0 yes agrees\n2 21 3 no agrees\n3 29 3 no agrees\nend 3\n",
         ),
         (
-            [RECORDED, ARCHIVE].concat(),
-            "1 29 3 no agrees\n2 21 3 no agrees\nend 2\n",
+            [GUARDED, RECORDED, ARCHIVE].concat(),
+            "1 29 3 no agrees\n2 21 3 no agrees\n3 24 3 0 yes agrees\nend 3\n",
         ),
         (Vec::new(), "end 0\n"),
     ];

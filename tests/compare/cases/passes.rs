@@ -3,6 +3,8 @@
 use super::super::generate::bodies::{self, Case};
 use super::super::generate::{targets, traces, wide};
 use super::super::oracle;
+use super::super::oracle::program::Contacts;
+use super::super::oracle::trace::{self, Trace, Traces};
 use super::super::script;
 use super::{executable, hex, Bench, Compared};
 
@@ -27,20 +29,21 @@ pub fn run(bench: &mut Bench) -> Compared {
 fn line(bench: &mut Bench) -> String {
     loop {
         let case = case(bench);
-        let mut trace = traces::packed(&case.samples);
+        let mut traces = trace::packed(&case.samples);
         if bench.random.one_in(12) {
-            traces::set_padding(&mut bench.random, &mut trace.bytes, trace.n);
+            set_padding(bench, &mut traces);
         }
+        let operation = match traces.contacts() {
+            Contacts::One => "pass",
+            Contacts::Two => "pass-two",
+        };
+        let fields: Vec<String> = traces.each().map(trace_fields).collect();
         let table = table(bench, &case);
         let cells: Vec<String> = table.iter().map(u16::to_string).collect();
         let line = format!(
-            "case: pass {} {} {} {}\n",
+            "case: {operation} {} {} {}\n",
             hex(&case.program).to_uppercase(),
-            match trace.bytes.is_empty() {
-                true => "-".to_string(),
-                false => hex(&trace.bytes).to_uppercase(),
-            },
-            trace.n,
+            fields.join(" "),
             cells.join("+")
         );
         if line.len() <= MOST_LINE {
@@ -49,15 +52,33 @@ fn line(bench: &mut Bench) -> String {
     }
 }
 
+/// Sets a bit above the last sample of a contact.
+fn set_padding(bench: &mut Bench, traces: &mut Traces) {
+    let trace = match &mut traces.guard {
+        Some(guard) if bench.random.one_in(2) => guard,
+        _ => &mut traces.ram,
+    };
+    traces::set_padding(&mut bench.random, &mut trace.bytes, trace.n);
+}
+
+/// A trace as the fields of a script.
+fn trace_fields(trace: &Trace) -> String {
+    match trace.bytes.is_empty() {
+        true => format!("- {}", trace.n),
+        false => format!("{} {}", hex(&trace.bytes).to_uppercase(), trace.n),
+    }
+}
+
 /// A program with bodies written on purpose.
 fn case(bench: &mut Bench) -> Case {
     let random = &mut bench.random;
+    let contacts = random.pick(&Contacts::ALL);
     if random.one_in(8) {
-        return wide::wide(random);
+        return wide::wide(random, contacts);
     }
     let mut target = || {
-        let turn = random.below(targets::count());
-        targets::target(random, turn)
+        let turn = random.below(targets::count(contacts));
+        targets::target(random, contacts, turn)
     };
     let targets = [target(), target()];
     bodies::of_targets(random, &targets)
@@ -67,11 +88,12 @@ fn case(bench: &mut Bench) -> Case {
 fn table(bench: &mut Bench, case: &Case) -> Vec<u16> {
     let functions = oracle::program::check(&case.program).expect("the program is accepted");
     let mut cells = oracle::search::evaluate(&functions, &case.samples).cells;
-    let longest = 5 + case.samples.len() as u16;
+    let lengths: Vec<usize> = case.samples.each().map(Vec::len).collect();
     let random = &mut bench.random;
     let kept = random.between(0, 8);
     for cell in &mut cells {
         let any = random.word() as u16;
+        let longest = 5 + random.pick(&lengths) as u16;
         if random.below(8) >= kept {
             *cell = random.pick(&[0, 0, 0, 0, 1, 2, 3, 4, 5, longest, longest + 1, any]);
         }
@@ -92,7 +114,11 @@ fn compare(bench: &mut Bench, path: &str, lines: &[String]) -> Compared {
         if have != want {
             return Err(format!("printed\n{have}\noracle\n{want}\nscript\n{line}"));
         }
-        bench.report.count(bench.kind, 0);
+        let contacts = match line.contains("pass-two") {
+            true => Contacts::Two,
+            false => Contacts::One,
+        };
+        bench.report.count(bench.kind, contacts, 0);
     }
     match have == want {
         true => Ok(()),

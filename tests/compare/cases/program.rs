@@ -1,13 +1,14 @@
 //! Checking a program.
 
 use super::super::generate::programs;
+use super::super::oracle::program::Contacts;
 use super::super::{ffi, oracle};
 use super::{hex, number, Bench, Compared, Findings};
 
-/// Some programs, many of them damaged.
+/// Some programs of both sorts, many of them damaged.
 pub fn run(bench: &mut Bench) -> Compared {
-    for _ in 0..4 {
-        let program = programs::any(&mut bench.random, 2);
+    for contacts in Contacts::ALL.repeat(2) {
+        let program = programs::any(&mut bench.random, contacts, 2);
         compare(bench, &program)?;
     }
     Ok(())
@@ -21,5 +22,8 @@ pub fn compare(bench: &mut Bench, program: &[u8]) -> Compared {
     let mut found = Findings::default();
     found.number(want, have);
     found.lent("program", &lent, program);
-    bench.close(found, want, || format!("program {}", hex(program)))
+    let contacts = programs::contacts(program);
+    bench.close(found, contacts, want, || {
+        format!("program {}", hex(program))
+    })
 }

@@ -1,7 +1,8 @@
 //! Writing, reading and checking records.
 
-use super::super::generate::traces::{self, Trace};
-use super::super::generate::{programs, records};
+use super::super::generate::{programs, records, traces};
+use super::super::oracle::program::Contacts;
+use super::super::oracle::trace::Traces;
 use super::super::{ffi, oracle};
 use super::evaluation::story;
 use super::{cells_hex, hex, number, Bench, Compared, Findings};
@@ -9,22 +10,19 @@ use super::{cells_hex, hex, number, Bench, Compared, Findings};
 /// What is handed in for a record.
 pub struct Order {
     pub program: Vec<u8>,
-    pub trace: Trace,
+    pub traces: Traces,
     pub table: Vec<u16>,
     pub out: Vec<u8>,
 }
 
-/// One record of a program on a trace.
+/// One record of a program on traces.
 pub fn run_write(bench: &mut Bench) -> Compared {
     let random = &mut bench.random;
-    let program = programs::any(random, 12);
-    let samples = traces::fitting(random, &program);
-    let mut trace = traces::packed(&samples);
-    if random.one_in(15) {
-        traces::damage(random, &mut trace);
-    }
-    let table = traces::table(random, &program, trace.n);
-    let needed = oracle::record::written_length(&program, &trace.bytes);
+    let contacts = random.pick(&Contacts::ALL);
+    let program = programs::any(random, contacts, 12);
+    let traces = traces::any(random, &program, 15);
+    let table = traces::table(random, &program, &traces);
+    let needed = oracle::record::written_length(&program, &traces);
     let room = match random.below(10) {
         0 => needed - 1,
         1 => random.between(0, needed),
@@ -33,7 +31,7 @@ pub fn run_write(bench: &mut Bench) -> Compared {
     };
     let order = Order {
         program,
-        trace,
+        traces,
         table,
         out: random.bytes(room),
     };
@@ -49,47 +47,49 @@ pub fn compare_write(bench: &mut Bench, mut order: Order) -> Compared {
     let mut lent_answer = bench.lend(&answer);
     let want = expect_write(bench, &mut order, &mut answer);
     let program = bench.lend(&order.program);
-    let trace = bench.lend(&order.trace.bytes);
-    let have = ffi::write_record(
-        &program,
-        &trace,
-        order.trace.n,
-        &mut table,
-        &mut out,
-        &mut lent_answer,
-    );
+    let traces = bench.lend_traces(&order.traces);
+    let have = ffi::write_record(&program, &traces, &mut table, &mut out, &mut lent_answer);
     let mut found = Findings::default();
     found.number(want, have);
     found.lent("program", &program, &order.program);
-    found.lent("trace", &trace, &order.trace.bytes);
+    found.traces(&traces, &order.traces);
     found.lent("table", &table, &order.table);
     found.lent("output", &out, &order.out);
     found.lent("answer", &lent_answer, &answer);
-    bench.close(found, want, || order_story(&order, &before))
+    bench.close(found, order.traces.contacts(), want, || {
+        order_story(&order, &before)
+    })
 }
 
 /// The number wanted; table, output and answer become what the library must leave.
 fn expect_write(bench: &mut Bench, order: &mut Order, answer: &mut [u64]) -> u32 {
     let written = oracle::record::write(
         &order.program,
-        &order.trace.bytes,
-        order.trace.n,
+        &order.traces,
         &mut order.table,
         &mut order.out,
     );
     if let Ok((length, evaluation)) = &written {
         let (verdict, passes) = (evaluation.verdict, evaluation.passes);
         answer.copy_from_slice(&[*length as u64, verdict.into(), passes.into()]);
-        bench.report.worked_out(evaluation);
+        bench.report.worked_out(order.traces.contacts(), evaluation);
     }
     number(&written)
 }
 
 /// An order in hex.
 fn order_story(order: &Order, table: &[u16]) -> String {
-    let case = story(&order.program, &order.trace, table);
+    let case = story(&order.program, &order.traces, table);
     let room = order.out.len();
     format!("{case}\noutput of {room} bytes")
+}
+
+/// The sort that the format byte of a record speaks of, be it accepted or not.
+fn contacts(bytes: &[u8]) -> Contacts {
+    match bytes {
+        [.., 3, _] => Contacts::Two,
+        _ => Contacts::One,
+    }
 }
 
 /// An archive read from its end, record by record until one is refused.
@@ -104,13 +104,14 @@ pub fn run_read(bench: &mut Bench) -> Compared {
 
 /// Compares the reading of the last record; gives the bytes before it.
 pub fn compare_read(bench: &mut Bench, bytes: &[u8]) -> Result<Option<usize>, String> {
-    let mut parts = bench.random.words(11);
+    let mut parts = bench.random.words(14);
     let mut lent_parts = bench.lend(&parts);
     let read = oracle::record::read(bytes);
     let want = number(&read);
     if let Ok(read) = &read {
         parts.copy_from_slice(&read.numbers());
-        bench.report.read(read.label_in(bytes));
+        let label = read.label_in(bytes);
+        bench.report.read(read.traces.contacts(), label);
     }
     let lent = bench.lend(bytes);
     let have = ffi::read_record(&lent, &mut lent_parts);
@@ -118,7 +119,9 @@ pub fn compare_read(bench: &mut Bench, bytes: &[u8]) -> Result<Option<usize>, St
     found.number(want, have);
     found.lent("bytes", &lent, bytes);
     found.lent("parts", &lent_parts, &parts);
-    bench.close(found, want, || format!("bytes {}", hex(bytes)))?;
+    bench.close(found, contacts(bytes), want, || {
+        format!("bytes {}", hex(bytes))
+    })?;
     Ok(read.ok().map(|read| read.before()))
 }
 
@@ -131,8 +134,8 @@ pub fn run_check(bench: &mut Bench) -> Compared {
     };
     let table = match oracle::record::read(&bytes) {
         Ok(parts) => {
-            let (start, length) = parts.program;
-            traces::table(random, &bytes[start..start + length], parts.n.into())
+            let (program, traces) = (parts.program_in(&bytes), parts.traces_in(&bytes));
+            traces::table(random, program, &traces)
         }
         Err(_) => {
             let length = random.below(50);
@@ -152,7 +155,7 @@ pub fn compare_check(bench: &mut Bench, bytes: &[u8], mut table: Vec<u16>) -> Co
     let want = number(&checked);
     if let Ok((agrees, evaluation)) = checked {
         answer[0] = u64::from(agrees);
-        bench.report.worked_out(&evaluation);
+        bench.report.worked_out(contacts(bytes), &evaluation);
     }
     let lent = bench.lend(bytes);
     let have = ffi::check_record(&lent, &mut lent_table, &mut lent_answer);
@@ -162,5 +165,5 @@ pub fn compare_check(bench: &mut Bench, bytes: &[u8], mut table: Vec<u16>) -> Co
     found.lent("table", &lent_table, &table);
     found.lent("answer", &lent_answer, &answer);
     let story = || format!("bytes {}\n{}", hex(bytes), cells_hex(&before));
-    bench.close(found, want, story)
+    bench.close(found, contacts(bytes), want, story)
 }

@@ -1,6 +1,7 @@
 //! Adding samples and taking traces.
 
 use super::super::generate::rings::{self, Ring};
+use super::super::oracle::program::Contacts;
 use super::super::{ffi, oracle};
 use super::{hex, number, Bench, Compared, Findings};
 
@@ -26,7 +27,9 @@ pub fn compare_add(bench: &mut Bench, ring: &mut Ring, sample: u8) -> Compared {
     found.number(want, have);
     found.lent("slots", &slots, &ring.slots);
     found.lent("state", &state, &ring.state);
-    bench.close(found, want, || format!("{before}\nsample {sample}"))
+    bench.close(found, Contacts::One, want, || {
+        format!("{before}\nsample {sample}")
+    })
 }
 
 /// One trace of a ring.
@@ -64,7 +67,7 @@ pub fn compare_trace(bench: &mut Bench, ring: &Ring, mut out: Vec<u8>) -> Compar
     found.lent("output", &lent_out, &out);
     found.lent("samples", &lent_samples, &samples);
     let story = || format!("{}\noutput of {} bytes", story(ring), out.len());
-    bench.close(found, want, story)
+    bench.close(found, Contacts::One, want, story)
 }
 
 /// A ring in hex.

@@ -1,5 +1,8 @@
 //! Programs with bodies written on purpose: their functions' kinds, a trace that fits, and the other bodies.
 
+use super::super::language::{GUARD, RAM};
+use super::super::oracle::program::{Contacts, Kind};
+use super::super::oracle::trace::{PerContact, Samples};
 use super::super::random::Random;
 use super::callees::Callee;
 use super::chains::Chain;
@@ -7,17 +10,17 @@ use super::preview::Preview;
 use super::programs::{self, MOST_BYTES};
 use super::targets::{Kinds, Target};
 use super::traces;
-use super::writer::Shape;
+use super::writer::{Mix, Shape};
 
 /// The most functions of a program.
 const MOST_FUNCTIONS: usize = 32;
-/// The most samples.
+/// The most samples of a contact.
 const MOST_SAMPLES: usize = 12;
 
 /// A program with samples that fit it, and the cells that it needs on them.
 pub struct Case {
     pub program: Vec<u8>,
-    pub samples: Vec<bool>,
+    pub samples: Samples,
     pub cells: usize,
 }
 
@@ -25,8 +28,7 @@ pub struct Case {
 pub struct Plan {
     pub shapes: Vec<Shape>,
     pub roles: Vec<Role>,
-    /// One parameter in so many is a list.
-    pub lists: usize,
+    pub mix: Mix,
 }
 
 /// What a function is for.
@@ -40,7 +42,7 @@ pub enum Role {
     Owner(usize),
 }
 
-/// A program with a body for each target. The targets are taken.
+/// A program with a body for each target, all of one sort. The targets are taken.
 pub fn of_targets(random: &mut Random, targets: &[Target]) -> Case {
     loop {
         let plan = Plan::of_targets(random, targets);
@@ -61,19 +63,44 @@ pub fn of_targets(random: &mut Random, targets: &[Target]) -> Case {
 }
 
 impl Plan {
-    /// Main alone, to be called.
-    pub fn new(random: &mut Random) -> Self {
-        Plan {
-            shapes: vec![Shape::main()],
+    /// Main alone, to be called; over two contacts also functions that lead from each kind to another.
+    pub fn new(random: &mut Random, contacts: Contacts) -> Self {
+        let lists = random.pick(&[2, 2, 4, 8]);
+        let mut plan = Plan {
+            shapes: vec![Shape::main(contacts)],
             roles: vec![Role::Any],
-            lists: random.pick(&[2, 2, 4, 8]),
+            mix: Mix { contacts, lists },
+        };
+        if contacts == Contacts::Two {
+            for (result, argument) in [
+                (RAM, GUARD),
+                (RAM, Kind::Bool),
+                (GUARD, RAM),
+                (GUARD, Kind::Bool),
+                (Kind::Bool, RAM),
+                (Kind::Bool, GUARD),
+            ] {
+                plan.way(random, result, argument);
+            }
         }
+        plan
+    }
+
+    /// Sees to a function to be called with a result of a kind, whose last argument is of another.
+    pub fn way(&mut self, random: &mut Random, result: Kind, argument: Kind) {
+        let count = random.between(1, 4);
+        let kinds = Kinds {
+            count,
+            result,
+            argument: Some((count - 1, argument)),
+        };
+        self.callee(random, &kinds);
     }
 
     fn of_targets(random: &mut Random, targets: &[Target]) -> Self {
-        let mut plan = Plan::new(random);
+        let mut plan = Plan::new(random, targets[0].contacts);
         for (number, target) in targets.iter().enumerate() {
-            for kinds in target.callees() {
+            for kinds in target.callees(random) {
                 plan.callee(random, &kinds);
             }
             plan.owner(random, target, number);
@@ -102,7 +129,7 @@ impl Plan {
             true => Role::Any,
             false => Role::Total,
         };
-        self.add(kinds.shape(random, self.lists), role);
+        self.add(kinds.shape(random, self.mix), role);
     }
 
     /// A function for a target, at times main.
@@ -111,7 +138,7 @@ impl Plan {
             self.roles[0] = Role::Owner(number);
             return;
         }
-        let shape = target.owner(random, self.lists);
+        let shape = target.owner(random, self.mix);
         self.add(shape, Role::Owner(number));
     }
 
@@ -119,7 +146,7 @@ impl Plan {
     pub fn fill(&mut self, random: &mut Random, most: usize) {
         while self.shapes.len() < most.min(MOST_FUNCTIONS) {
             let role = random.pick(&[Role::Any, Role::Total]);
-            self.add(Shape::any(random, self.lists), role);
+            self.add(Shape::any(random, self.mix), role);
         }
         let mut order: Vec<usize> = (1..self.shapes.len()).collect();
         random.shuffle(&mut order);
@@ -140,7 +167,7 @@ impl Plan {
 
     /// A few samples, mostly so few that all functions, and those written on purpose, need no more cells than the
     /// numbers given.
-    pub fn samples(&self, random: &mut Random, most: usize, owned: usize) -> Vec<bool> {
+    pub fn samples(&self, random: &mut Random, most: usize, owned: usize) -> Samples {
         let times = match random.below(40) {
             0 => 10,
             1..=3 => 3,
@@ -148,18 +175,32 @@ impl Plan {
         };
         let owners: Vec<usize> = self.owners().iter().map(|(own, _)| *own).collect();
         let all: Vec<usize> = (0..self.shapes.len()).collect();
-        let heavy =
-            |n: usize| self.cells(&all, n) > times * most || self.cells(&owners, n) > times * owned;
-        let mut n = random.between(0, MOST_SAMPLES);
-        while n > 1 && heavy(n) {
-            n -= 1;
+        let heavy = |counts: &PerContact<usize>| {
+            let cells = |functions: &[usize]| self.cells(functions, counts);
+            cells(&all) > times * most || cells(&owners) > times * owned
+        };
+        let mut counts = PerContact {
+            ram: random.between(0, MOST_SAMPLES),
+            guard: None,
+        };
+        if self.mix.contacts == Contacts::Two {
+            counts.guard = Some(random.between(0, MOST_SAMPLES));
         }
-        traces::samples(random, n)
+        while counts.each().any(|n| *n > 1) && heavy(&counts) {
+            match &mut counts.guard {
+                Some(m) if *m > 1 && (counts.ram < 2 || random.one_in(2)) => *m -= 1,
+                _ => counts.ram -= 1,
+            }
+        }
+        traces::samples(random, &counts)
     }
 
-    /// The cells that some functions need on n samples.
-    fn cells(&self, functions: &[usize], n: usize) -> usize {
-        let radix = |list: &bool| if *list { n + 1 } else { 2 };
+    /// The cells that some functions need on so many samples.
+    fn cells(&self, functions: &[usize], counts: &PerContact<usize>) -> usize {
+        let radix = |kind: &Kind| match kind {
+            Kind::Bool => 2,
+            Kind::List(contact) => counts.of(*contact) + 1,
+        };
         let cells = |own: &usize| {
             self.shapes[*own]
                 .parameters
@@ -205,13 +246,13 @@ impl Plan {
     }
 
     /// The program of these bodies on samples, if it is not too long.
-    pub fn case(&self, bodies: Vec<Vec<u8>>, samples: &[bool]) -> Option<Case> {
-        let program = programs::of_parts(&self.shapes, bodies);
+    pub fn case(&self, bodies: Vec<Vec<u8>>, samples: &Samples) -> Option<Case> {
+        let program = programs::of_parts(self.mix.contacts, &self.shapes, bodies);
         let all: Vec<usize> = (0..self.shapes.len()).collect();
         (program.len() <= MOST_BYTES).then(|| Case {
             program,
-            samples: samples.to_vec(),
-            cells: self.cells(&all, samples.len()),
+            samples: samples.clone(),
+            cells: self.cells(&all, &samples.map(Vec::len)),
         })
     }
 }

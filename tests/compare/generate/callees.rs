@@ -1,8 +1,9 @@
 //! Bodies for functions that are called: total ones, which have a value on all arguments and mostly tell them
 //! apart, and others, which meet errors, wait for each other or never end.
 
+use super::super::oracle::program::{Demand, Kind};
 use super::super::random::Random;
-use super::writer::{Shape, CALL, EMPTY, FALSE, HEAD, IF, NULL, PARAMETER, TAIL};
+use super::writer::{constant, empty, Shape, CALL, FALSE, HEAD, IF, NULL, PARAMETER, TAIL};
 
 /// Writes one body: tests on each parameter in turn, with something short at the end of each way.
 pub struct Callee<'a> {
@@ -30,7 +31,7 @@ impl Callee<'_> {
             return self.end();
         };
         let byte = PARAMETER + *which as u8;
-        if !self.shapes[self.own].parameters[*which] {
+        if self.shapes[self.own].parameters[*which] == Kind::Bool {
             self.out.extend([IF, byte]);
             return self.ways(rest);
         }
@@ -49,7 +50,7 @@ impl Callee<'_> {
     /// Both ways after a test; a Bool's last ways are often opposite.
     fn ways(&mut self, rest: &[usize]) {
         let result = self.shapes[self.own].result;
-        if rest.is_empty() && !result && self.random.one_in(2) {
+        if rest.is_empty() && result == Kind::Bool && self.random.one_in(2) {
             let first = self.random.below(2) as u8;
             return self.out.extend([FALSE + first, FALSE + 1 - first]);
         }
@@ -71,42 +72,57 @@ impl Callee<'_> {
     }
 
     /// Something with a value: a constant, a parameter, or hd, tl or null of one that allows it.
-    fn leaf(&mut self, list: bool) {
-        let mut ways = match list {
-            true => vec![vec![EMPTY]],
-            false => vec![vec![FALSE], vec![FALSE + 1]],
+    fn leaf(&mut self, wanted: Kind) {
+        let mut ways = match wanted {
+            Kind::Bool => vec![vec![FALSE], vec![FALSE + 1]],
+            Kind::List(contact) => vec![vec![empty(contact)]],
         };
         for (which, kind) in self.shapes[self.own].parameters.iter().enumerate() {
             let byte = PARAMETER + which as u8;
-            if *kind == list {
+            let is_list = *kind != Kind::Bool;
+            if *kind == wanted {
                 ways.push(vec![byte]);
             }
-            if *kind && !list {
+            if is_list && wanted == Kind::Bool {
                 ways.push(vec![NULL, byte]);
             }
-            if self.full.contains(&which) {
-                ways.push(vec![if list { TAIL } else { HEAD }, byte]);
+            if self.full.contains(&which) && wanted == Kind::Bool {
+                ways.push(vec![HEAD, byte]);
+            }
+            if self.full.contains(&which) && wanted == *kind {
+                ways.push(vec![TAIL, byte]);
             }
         }
         let way = self.random.below(ways.len());
         self.out.extend(&ways[way]);
     }
 
+    /// A list for a demand: mostly a parameter, else empty.
+    fn list(&mut self, demand: Demand) -> u8 {
+        let parameters = (PARAMETER..).zip(&self.shapes[self.own].parameters);
+        let lists = parameters.filter(|(_, kind)| demand.allows(**kind));
+        let lists: Vec<u8> = lists.map(|(byte, _)| byte).collect();
+        match lists.is_empty() || self.random.one_in(3) {
+            true => constant(self.random, self.shapes, demand),
+            false => self.random.pick(&lists),
+        }
+    }
+
     /// Head of empty, tail of empty, either by a parameter, or the function itself on the same values.
     fn fault(&mut self) {
         let Shape { parameters, result } = &self.shapes[self.own];
-        let lists: Vec<usize> = (0..parameters.len())
-            .filter(|which| parameters[*which])
-            .collect();
-        let list = match lists.is_empty() || self.random.one_in(3) {
-            true => EMPTY,
-            false => PARAMETER + self.random.pick(&lists) as u8,
-        };
+        let list = self.list(Demand::Either);
         match (self.random.below(4), result) {
-            (0, false) => self.out.extend([HEAD, list]),
-            (0, true) => self.out.extend([IF, HEAD, list, EMPTY, list]),
-            (1, false) => self.out.extend([NULL, TAIL, list]),
-            (1, true) => self.out.extend([TAIL, list]),
+            (0, Kind::Bool) => self.out.extend([HEAD, list]),
+            (0, Kind::List(contact)) => {
+                let own = self.list(Demand::Only(*result));
+                self.out.extend([IF, HEAD, list, empty(*contact), own]);
+            }
+            (1, Kind::Bool) => self.out.extend([NULL, TAIL, list]),
+            (1, Kind::List(_)) => {
+                let own = self.list(Demand::Only(*result));
+                self.out.extend([TAIL, own]);
+            }
             _ => {
                 self.out.push(CALL + self.own as u8);
                 self.out

@@ -1,12 +1,13 @@
 //! Bodies that are one long branch down to a target. There are values of the parameters on which the target is
 //! taken, and on which the body mostly comes to something else if the target does.
 
-use super::super::language::{Place, Sort};
+use super::super::language::{demands, Place, Sort, BOOL};
+use super::super::oracle::program::{Demand, Kind, Value};
 use super::super::random::Random;
 use super::beside::Beside;
 use super::preview::{Preview, Told};
 use super::targets::Target;
-use super::writer::{CALL, EMPTY, FALSE, HEAD, IF, NULL, PARAMETER, TAIL};
+use super::writer::{empty, settled, CALL, FALSE, HEAD, IF, NULL, PARAMETER, TAIL};
 
 /// From so many bytes of the branch on, what stands beside it is kept to leaves.
 const LONG: usize = 450;
@@ -27,15 +28,17 @@ pub struct Chain<'a> {
 /// The branch so far, from the target up.
 struct Branch {
     bytes: Vec<u8>,
-    list: bool,
+    /// What is demanded where it stands.
+    demand: Demand,
     /// What it comes to, and another value that it must not be taken for.
-    values: Option<(usize, usize)>,
+    values: Option<(Value, Value)>,
 }
 
 /// A node to put above the branch.
 struct Link {
     place: Place,
-    list: bool,
+    /// What is demanded of the node.
+    demand: Demand,
     /// The node and its operands before the branch, and those after it.
     before: Vec<u8>,
     after: Vec<u8>,
@@ -83,7 +86,7 @@ impl<'a> Chain<'a> {
             return (chain.branch(), None);
         }
         let mut bytes = vec![IF];
-        chain.beside.valued(&mut bytes, false, 2, Some(0));
+        chain.beside.valued(&mut bytes, BOOL, 2, Some(false));
         let place = bytes.len();
         bytes.extend(chain.branch());
         (bytes, Some(place))
@@ -111,12 +114,12 @@ impl<'a> Chain<'a> {
         Branch {
             values: self.seen_through(&link, &branch),
             bytes: [link.before, branch.bytes, link.after].concat(),
-            list: link.list,
+            demand: link.demand,
         }
     }
 
     /// What a node comes to for both values of the branch, if it tells them apart.
-    fn seen_through(&self, link: &Link, branch: &Branch) -> Option<(usize, usize)> {
+    fn seen_through(&self, link: &Link, branch: &Branch) -> Option<(Value, Value)> {
         let (value, other) = branch.values?;
         match (self.through(link, value), self.through(link, other)) {
             (Told::Value(value), Told::Value(other)) if value != other => Some((value, other)),
@@ -125,10 +128,10 @@ impl<'a> Chain<'a> {
     }
 
     /// What a node comes to for a value of the branch.
-    fn through(&self, link: &Link, value: usize) -> Told {
+    fn through(&self, link: &Link, value: Value) -> Told {
         match link.place {
-            Place::Head | Place::Tail | Place::Null => self.preview.unary(link.before[0], value),
-            Place::Condition(_) => link.others[1 - value],
+            Place::Head | Place::Tail(_) | Place::Null => self.preview.unary(link.before[0], value),
+            Place::Condition(_) => link.others[usize::from(value == Value::Bool(false))],
             Place::Then(_) | Place::Else(_) | Place::Body(_) => Told::Value(value),
             Place::Argument(_, which, _) => {
                 let mut arguments = Vec::new();
@@ -149,45 +152,61 @@ impl<'a> Chain<'a> {
         let target = self.target;
         let start = target.start();
         if depth < start {
-            let result = self.preview.shapes[self.beside.own].result;
-            let wanted = (depth == self.first).then_some(result);
-            let (place, list) = self.place(branch.list, wanted);
-            return self.node(place, list, depth);
+            let (place, demand) = self.place(branch.demand, depth);
+            return self.node(place, demand, depth);
         }
-        let list = match depth == start {
-            true => target.list,
-            false => target.path[depth - start - 1].list(),
+        let demand = match depth == start {
+            true => target.demand,
+            false => target.path[depth - start - 1].demand(target.contacts),
         };
-        self.node(target.path[depth - start], list, depth)
+        self.node(target.path[depth - start], demand, depth)
     }
 
-    /// A place for an operand of a kind, and the kind of its node, which may be wanted.
-    fn place(&mut self, below: bool, wanted: Option<bool>) -> (Place, bool) {
+    /// What may be demanded of a node at a depth: the first has the body's kind, and above a list of either contact
+    /// there is a Bool.
+    fn demands(&self, depth: usize) -> Vec<Demand> {
+        let result = Demand::Only(self.preview.shapes[self.beside.own].result);
+        if depth == self.first {
+            return vec![result];
+        }
+        let mut demands = demands(self.target.contacts).to_vec();
+        if depth == self.first + 1 && result != BOOL {
+            demands.retain(|demand| *demand != Demand::Either);
+        }
+        demands
+    }
+
+    /// A place for an operand for a demand, and what is demanded of its node, which stands at a depth.
+    fn place(&mut self, below: Demand, depth: usize) -> (Place, Demand) {
+        let demands = self.demands(depth);
         loop {
             let random = &mut self.beside.random;
-            let list = wanted.unwrap_or(random.one_in(2));
+            let demand = random.pick(&demands);
             let place = match random.below(8) {
-                0 | 1 if !list => random.pick(&[Place::Head, Place::Null]),
-                0 => Place::Tail,
-                1..=4 => {
-                    random.pick(&[Place::Condition(list), Place::Then(list), Place::Else(list)])
-                }
-                _ => self.argument(list),
+                0 | 1 if demand == BOOL => random.pick(&[Place::Head, Place::Null]),
+                0 => Place::Tail(demand),
+                1..=4 => random.pick(&[
+                    Place::Condition(demand),
+                    Place::Then(demand),
+                    Place::Else(demand),
+                ]),
+                _ => self.argument(demand),
             };
-            if place.list() == below && (place.is_last() || !self.last) {
-                return (place, list);
+            let fits = place.demand(self.target.contacts) == below;
+            if fits && (place.is_last() || !self.last) {
+                return (place, demand);
             }
         }
     }
 
-    /// An argument of a function with a result of a kind; the branch of an if where there is none.
-    fn argument(&mut self, list: bool) -> Place {
+    /// An argument of a function with a result for a demand; the branch of an if where there is none.
+    fn argument(&mut self, demand: Demand) -> Place {
         let any = self.beside.random.one_in(32);
-        let callees = self.beside.callees(list, |callee, shape| {
+        let callees = self.beside.callees(demand, |callee, shape| {
             !shape.parameters.is_empty() && (any || self.preview.is_total(callee))
         });
         if callees.is_empty() {
-            return Place::Else(list);
+            return Place::Else(demand);
         }
         let kinds = &self.preview.shapes[self.beside.random.pick(&callees)].parameters;
         let which = self.beside.random.below(kinds.len());
@@ -195,10 +214,10 @@ impl<'a> Chain<'a> {
     }
 
     /// A node at a depth for a branch in one of its places. What it takes before the branch has a value.
-    fn node(&mut self, place: Place, list: bool, depth: usize) -> Link {
+    fn node(&mut self, place: Place, demand: Demand, depth: usize) -> Link {
         let mut link = Link {
             place,
-            list,
+            demand,
             before: Vec::new(),
             after: Vec::new(),
             others: Vec::new(),
@@ -207,21 +226,21 @@ impl<'a> Chain<'a> {
         let (below, beside) = (depth + 1, &mut self.beside);
         match place {
             Place::Head => link.before.push(HEAD),
-            Place::Tail => link.before.push(TAIL),
+            Place::Tail(_) => link.before.push(TAIL),
             Place::Null => link.before.push(NULL),
             Place::Condition(_) => {
                 link.before.push(IF);
-                link.others = beside.branches(&mut link.after, list, below);
+                link.others = beside.branches(&mut link.after, demand, below);
             }
             Place::Then(_) => {
                 link.before.push(IF);
-                beside.valued(&mut link.before, false, below, Some(1));
-                beside.any(&mut link.after, list, below);
+                beside.valued(&mut link.before, BOOL, below, Some(true));
+                beside.any(&mut link.after, demand, below);
             }
             Place::Else(_) => {
                 link.before.push(IF);
-                beside.valued(&mut link.before, false, below, Some(0));
-                beside.any(&mut link.before, list, below);
+                beside.valued(&mut link.before, BOOL, below, Some(false));
+                beside.any(&mut link.before, demand, below);
             }
             Place::Argument(count, which, kind) => self.call(&mut link, count, which, kind, below),
             Place::Body(_) => unreachable!("a body is no operand"),
@@ -230,8 +249,8 @@ impl<'a> Chain<'a> {
     }
 
     /// A call with a branch in one of its arguments.
-    fn call(&mut self, link: &mut Link, count: usize, which: usize, kind: bool, below: usize) {
-        let mut callees = self.beside.callees(link.list, |_, shape| {
+    fn call(&mut self, link: &mut Link, count: usize, which: usize, kind: Kind, below: usize) {
+        let mut callees = self.beside.callees(link.demand, |_, shape| {
             shape.parameters.len() == count && shape.parameters[which] == kind
         });
         if callees.iter().any(|callee| self.preview.is_total(*callee)) {
@@ -244,12 +263,13 @@ impl<'a> Chain<'a> {
             .iter()
             .enumerate()
         {
+            let demand = Demand::Only(*kind);
             if place < which {
-                let other = self.beside.valued(&mut link.before, *kind, below, None);
+                let other = self.beside.valued(&mut link.before, demand, below, None);
                 link.others.push(other);
             }
             if place > which {
-                let other = self.beside.mostly_valued(&mut link.after, *kind, below);
+                let other = self.beside.mostly_valued(&mut link.after, demand, below);
                 link.others.push(other);
             }
         }
@@ -257,54 +277,67 @@ impl<'a> Chain<'a> {
 
     /// The target's node with all below it.
     fn end(&mut self) -> Branch {
-        let (list, depth) = (self.target.own_list(), self.target.depth);
+        let (demand, depth) = (self.target.own_demand(), self.target.depth);
         let beside = &mut self.beside;
         let mut bytes = Vec::new();
+        let out = &mut bytes;
         match self.target.sort {
-            Sort::False => bytes.push(FALSE),
-            Sort::True => bytes.push(FALSE + 1),
-            Sort::Empty => bytes.push(EMPTY),
-            Sort::Parameter(which) => bytes.push(PARAMETER + which as u8),
-            Sort::HeadOfParameter => beside.of_parameter(&mut bytes, &[HEAD], true),
-            Sort::TailOfParameter => beside.of_parameter(&mut bytes, &[TAIL], true),
-            Sort::NullOfParameter => beside.of_parameter(&mut bytes, &[NULL], true),
-            Sort::Head => beside.of_other(&mut bytes, HEAD, depth),
-            Sort::Tail => beside.of_other(&mut bytes, TAIL, depth),
-            Sort::Null => beside.of_other(&mut bytes, NULL, depth),
-            Sort::IfParameter => beside.of_parameter(&mut bytes, &[IF], false),
-            Sort::IfHeadOfParameter => beside.of_parameter(&mut bytes, &[IF, HEAD], true),
-            Sort::IfNullOfParameter => beside.of_parameter(&mut bytes, &[IF, NULL], true),
+            Sort::False => out.push(FALSE),
+            Sort::True => out.push(FALSE + 1),
+            Sort::Empty(contact) => out.push(empty(contact)),
+            Sort::Parameter(which, _) => out.push(PARAMETER + which as u8),
+            Sort::HeadOfParameter(of) => beside.of_parameter(out, &[HEAD], Kind::List(of)),
+            Sort::TailOfParameter(of) => beside.of_parameter(out, &[TAIL], Kind::List(of)),
+            Sort::NullOfParameter(of) => beside.of_parameter(out, &[NULL], Kind::List(of)),
+            Sort::Head => beside.of_other(out, HEAD, Demand::Either, depth),
+            Sort::Tail => beside.of_other(out, TAIL, demand, depth),
+            Sort::Null => beside.of_other(out, NULL, Demand::Either, depth),
+            Sort::IfParameter => beside.of_parameter(out, &[IF], Kind::Bool),
+            Sort::IfHeadOfParameter(of) => beside.of_parameter(out, &[IF, HEAD], Kind::List(of)),
+            Sort::IfNullOfParameter(of) => beside.of_parameter(out, &[IF, NULL], Kind::List(of)),
             Sort::If => {
-                bytes.push(IF);
-                beside.other(&mut bytes, false, depth + 1);
+                out.push(IF);
+                beside.other(out, BOOL, depth + 1);
             }
-            Sort::Call(count) => {
-                let callees = beside.callees(list, |_, shape| shape.parameters.len() == count);
+            Sort::Call(count, result) => {
+                let result = Demand::Only(result);
+                let callees = beside.callees(result, |_, shape| shape.parameters.len() == count);
                 let callee = beside.random.pick(&callees);
-                beside.call(&mut bytes, callee, depth);
+                beside.call(out, callee, depth);
             }
         }
         if bytes[0] == IF {
-            beside.any_branches(&mut bytes, list, depth + 1);
+            beside.any_branches(&mut bytes, demand, depth + 1);
         }
-        let values = self.told_apart(&bytes, list);
+        let values = self.told_apart(&bytes, demand);
         Branch {
             bytes,
-            list,
+            demand,
             values,
         }
     }
 
-    /// What the target comes to, and another value that it might be taken for.
-    fn told_apart(&mut self, bytes: &[u8], list: bool) -> Option<(usize, usize)> {
-        let told = self.preview.expression(bytes, &self.beside.values);
-        let most = if list { self.preview.samples.len() } else { 1 };
-        match told {
-            Told::Value(value) if most > 0 => {
-                let step = self.beside.random.between(1, most);
-                Some((value, (value + step) % (most + 1)))
-            }
-            _ => None,
+    /// What the target comes to, and another value that it might be taken for: of a list, another of its contact, or
+    /// where either may stand of any.
+    fn told_apart(&mut self, bytes: &[u8], demand: Demand) -> Option<(Value, Value)> {
+        let Told::Value(value) = self.preview.expression(bytes, &self.beside.values) else {
+            return None;
+        };
+        let random = &mut self.beside.random;
+        let kind = match (value, demand) {
+            (Value::Suffix(contact, _), Demand::Only(_)) => Kind::List(contact),
+            (Value::Suffix(..), Demand::Either) => settled(random, self.target.contacts, demand),
+            (Value::Bool(_), _) => Kind::Bool,
+        };
+        let most = match kind {
+            Kind::List(contact) => self.preview.samples.of(contact).len(),
+            Kind::Bool => 1,
+        };
+        let others = (0..=most as u16).map(|digit| kind.value(digit));
+        let others: Vec<Value> = others.filter(|other| *other != value).collect();
+        match others.is_empty() {
+            true => None,
+            false => Some((value, random.pick(&others))),
         }
     }
 }

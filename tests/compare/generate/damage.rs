@@ -1,23 +1,24 @@
 //! Damage to programs: each sort of fault on purpose, and changes at random.
 
+use super::super::oracle::program::{Contacts, Kind};
 use super::super::random::Random;
 use super::programs::{self, Draft};
-use super::writer::CALL;
+use super::writer::{empty, CALL, PARAMETER};
 
 /// A damaged program; it may still be accepted.
-pub fn program(random: &mut Random) -> Vec<u8> {
+pub fn program(random: &mut Random, contacts: Contacts) -> Vec<u8> {
     match random.below(20) {
         0 => {
             let depth = random.pick(&[64, 65, 65, 66, 100]);
-            let draft = programs::deep(random, depth);
+            let draft = programs::deep(random, contacts, depth);
             finished(random, draft, 0)
         }
         1 => {
-            let draft = programs::edge(random);
+            let draft = programs::edge(random, contacts);
             finished(random, draft, 0)
         }
         _ => {
-            let draft = programs::draft(random);
+            let draft = programs::draft(random, contacts);
             let faults = random.pick(&[1, 1, 1, 1, 2, 3]);
             finished(random, draft, faults)
         }
@@ -39,16 +40,24 @@ fn finished(random: &mut Random, mut draft: Draft, faults: usize) -> Vec<u8> {
 /// One fault in a draft.
 fn damage_draft(random: &mut Random, draft: &mut Draft) {
     let own = random.below(draft.parts.len());
-    match random.below(14) {
-        0 => draft.count = Some(random.pick(&[0, 33, 34, 128, 255])),
-        1 => draft.count = Some(near(random, draft.parts.len() as u8)),
+    match random.below(16) {
+        0 => damage_count(random, draft),
+        1 => draft.count = Some(near(random, draft.right_count())),
         2 | 3 => damage_header(random, draft, own),
         4 => damage_header(random, draft, 0),
         5 => shorten(random, &mut draft.parts[own].body),
         6 => lengthen(random, &mut draft.parts[own].body),
         7 => swap_headers(random, draft),
+        8 | 9 => other_list(random, draft, own),
         _ => damage_body(random, draft, own),
     }
+}
+
+/// A count of no functions or too many, or the same count for the other sort.
+fn damage_count(random: &mut Random, draft: &mut Draft) {
+    let other = draft.right_count() ^ 0x80;
+    let count = random.pick(&[0, 33, 34, 127, 128, 161, 162, 255, other, other]);
+    draft.count = Some(count);
 }
 
 /// A number one off or two.
@@ -60,16 +69,44 @@ fn near(random: &mut Random, number: u8) -> u8 {
 /// One wrong byte or length in a header.
 fn damage_header(random: &mut Random, draft: &mut Draft, own: usize) {
     let part = &mut draft.parts[own];
-    let mut header = part.right_header();
-    match random.below(6) {
+    let mut header = part.right_header(draft.contacts);
+    let length = header.len() - 2;
+    match random.below(7) {
         0 => header[0] = random.pick(&[0, 1, 2, 3, 4, 5, 6, 255]),
         1 => header[1] ^= 1 << random.below(8),
         2 => header[1] = random.byte(),
-        3 => [header[2], header[3]] = random.pick(&[0u16, 1, 1_024, 1_025, 65_535]).to_le_bytes(),
-        4 => header[2] = near(random, header[2]),
-        _ => header[random.below(4)] = random.byte(),
+        3 => {
+            let wrong = random.pick(&[0u16, 1, 1_024, 1_025, 65_535]);
+            header[length..].copy_from_slice(&wrong.to_le_bytes());
+        }
+        4 => header[length] = near(random, header[length]),
+        // of two contacts the bits of the guard's lists
+        5 => header[length - 1] ^= 1 << random.below(8),
+        _ => {
+            let place = random.below(header.len());
+            header[place] = random.byte();
+        }
     }
     part.header = Some(header);
+}
+
+/// One list of a body, a parameter or an empty one, in place of another; of two contacts often of the other's.
+fn other_list(random: &mut Random, draft: &mut Draft, own: usize) {
+    let part = &mut draft.parts[own];
+    let mut lists: Vec<u8> = draft
+        .contacts
+        .contacts()
+        .iter()
+        .map(|it| empty(*it))
+        .collect();
+    let parameters = (PARAMETER..).zip(&part.shape.parameters);
+    let of_lists = parameters.filter(|(_, kind)| **kind != Kind::Bool);
+    lists.extend(of_lists.map(|(byte, _)| byte));
+    let places = (0..part.body.len()).filter(|place| lists.contains(&part.body[*place]));
+    let places: Vec<usize> = places.collect();
+    if !places.is_empty() {
+        part.body[random.pick(&places)] = random.pick(&lists);
+    }
 }
 
 /// Drops bytes from a body's end, but not all.

@@ -1,8 +1,10 @@
 //! Wide expressions of an exact length: calls of calls with as many arguments as there are, and ifs.
 
+use super::super::language::BOOL;
+use super::super::oracle::program::{Demand, Value};
 use super::super::random::Random;
 use super::preview::{Preview, Told};
-use super::writer::{CALL, EMPTY, FALSE, HEAD, IF, NULL, PARAMETER, TAIL};
+use super::writer::{constant, CALL, HEAD, IF, NULL, PARAMETER, TAIL};
 
 /// From this depth on, operands are about equally long, so that no depth is too great.
 const DEEP: usize = 30;
@@ -18,7 +20,7 @@ pub struct Exact<'a> {
     pub callees: &'a [usize],
     pub own: usize,
     /// Values of the parameters on which most short expressions have a value.
-    pub values: Vec<usize>,
+    pub values: Vec<Value>,
     /// A short expression is being drawn.
     pub drawing: bool,
     pub out: Vec<u8>,
@@ -26,15 +28,15 @@ pub struct Exact<'a> {
 
 impl Exact<'_> {
     /// An expression of exactly so many bytes; its first node stands at the given depth.
-    pub fn expression(&mut self, list: bool, length: usize, depth: usize) {
+    pub fn expression(&mut self, demand: Demand, length: usize, depth: usize) {
         if self.drawing || length == 1 || length > SHORT {
-            return self.draw(list, length, depth);
+            return self.draw(demand, length, depth);
         }
         let start = self.out.len();
         self.drawing = true;
         for _ in 0..DRAWS {
             self.out.truncate(start);
-            self.draw(list, length, depth);
+            self.draw(demand, length, depth);
             let told = self.preview.expression(&self.out[start..], &self.values);
             if matches!(told, Told::Value(_)) {
                 break;
@@ -43,51 +45,49 @@ impl Exact<'_> {
         self.drawing = false;
     }
 
-    fn draw(&mut self, list: bool, length: usize, depth: usize) {
+    fn draw(&mut self, demand: Demand, length: usize, depth: usize) {
         if length == 1 {
-            return self.leaf(list);
+            return self.leaf(demand);
         }
-        let callees = self.widest(list, length, depth);
+        let callees = self.widest(demand, length, depth);
         match self.random.below(4) {
             1.. if !callees.is_empty() => {
                 let callee = self.random.pick(&callees);
                 self.out.push(CALL + callee as u8);
-                self.operands(
-                    &self.preview.shapes[callee].parameters,
-                    length - 1,
-                    depth + 1,
-                );
+                let kinds = self.preview.shapes[callee].parameters.iter();
+                let demands: Vec<Demand> = kinds.copied().map(Demand::Only).collect();
+                self.operands(&demands, length - 1, depth + 1);
             }
             _ if length < 4 => {
-                let node = match list {
-                    true => TAIL,
-                    false => self.random.pick(&[NULL, HEAD]),
+                let (node, below) = match demand {
+                    BOOL => (self.random.pick(&[NULL, HEAD]), Demand::Either),
+                    _ => (TAIL, demand),
                 };
-                self.unary(node, length, depth);
+                self.unary(node, below, length, depth);
             }
-            _ if !list && depth < DEEP && self.random.one_in(4) => {
-                self.unary(NULL, length, depth);
+            _ if demand == BOOL && depth < DEEP && self.random.one_in(4) => {
+                self.unary(NULL, Demand::Either, length, depth);
             }
             _ => {
                 self.out.push(IF);
-                self.operands(&[false, list, list], length - 1, depth + 1);
+                self.operands(&[BOOL, demand, demand], length - 1, depth + 1);
             }
         }
     }
 
-    fn unary(&mut self, node: u8, length: usize, depth: usize) {
+    fn unary(&mut self, node: u8, below: Demand, length: usize, depth: usize) {
         self.out.push(node);
-        self.expression(true, length - 1, depth + 1);
+        self.expression(below, length - 1, depth + 1);
     }
 
-    /// Operands of some kinds, together of a length.
-    fn operands(&mut self, kinds: &[bool], length: usize, depth: usize) {
+    /// Operands for some demands, together of a length.
+    fn operands(&mut self, demands: &[Demand], length: usize, depth: usize) {
         let lengths = match depth < DEEP && self.random.one_in(3) {
-            true => self.uneven(length, kinds.len()),
-            false => even(length, kinds.len()),
+            true => self.uneven(length, demands.len()),
+            false => even(length, demands.len()),
         };
-        for (list, length) in kinds.iter().zip(lengths) {
-            self.expression(*list, length, depth);
+        for (demand, length) in demands.iter().zip(lengths) {
+            self.expression(*demand, length, depth);
         }
     }
 
@@ -105,13 +105,13 @@ impl Exact<'_> {
         lengths
     }
 
-    /// The functions with a result of a kind and the most arguments for which there is room; at times any.
-    fn widest(&mut self, list: bool, length: usize, depth: usize) -> Vec<usize> {
+    /// The functions with a result that is demanded and the most arguments for which there is room; at times any.
+    fn widest(&mut self, demand: Demand, length: usize, depth: usize) -> Vec<usize> {
         let shapes = self.preview.shapes;
         let count = |callee: &usize| shapes[*callee].parameters.len();
         let least = 1 + usize::from(depth >= DEEP && length > SHORT);
         let fits = |callee: &usize| {
-            shapes[*callee].result == list && (least..length).contains(&count(callee))
+            demand.allows(shapes[*callee].result) && (least..length).contains(&count(callee))
         };
         let mut callees: Vec<usize> = self.callees.iter().copied().filter(fits).collect();
         if !self.random.one_in(4) {
@@ -122,14 +122,15 @@ impl Exact<'_> {
     }
 
     /// A parameter or a constant.
-    fn leaf(&mut self, list: bool) {
+    fn leaf(&mut self, demand: Demand) {
         let kinds = self.preview.shapes[self.own].parameters.iter();
-        let fitting = kinds.zip(PARAMETER..).filter(|(kind, _)| **kind == list);
+        let fitting = kinds
+            .zip(PARAMETER..)
+            .filter(|(kind, _)| demand.allows(**kind));
         let parameters: Vec<u8> = fitting.map(|(_, byte)| byte).collect();
-        let byte = match list {
-            _ if !parameters.is_empty() && !self.random.one_in(4) => self.random.pick(&parameters),
-            true => EMPTY,
-            false => FALSE + self.random.below(2) as u8,
+        let byte = match parameters.is_empty() || self.random.one_in(4) {
+            true => constant(self.random, self.preview.shapes, demand),
+            false => self.random.pick(&parameters),
         };
         self.out.push(byte);
     }

@@ -1,40 +1,63 @@
-//! Records and archives of both formats, sound and damaged.
+//! Records and archives of all formats, sound and damaged.
 
+use super::super::oracle::program::{self, Contacts};
 use super::super::oracle::record::Content;
-use super::super::oracle::{program, search, trace};
+use super::super::oracle::search;
+use super::super::oracle::trace::{self, PerContact, Samples, Trace};
 use super::super::random::Random;
 use super::{programs, traces};
 
-/// A record's content; verdict and passes are mostly the right ones.
+/// The content of a record of any sort.
 pub fn content(random: &mut Random, damaged_in: usize) -> Content {
-    let program = programs::any(random, damaged_in);
-    let samples = traces::fitting(random, &program);
+    let contacts = random.pick(&Contacts::ALL);
+    content_over(random, contacts, damaged_in)
+}
+
+/// A record's content; verdict and passes are mostly the right ones, and the program that of the sort of the traces.
+fn content_over(random: &mut Random, contacts: Contacts, damaged_in: usize) -> Content {
+    let mut program = programs::any(random, contacts, damaged_in);
+    let mut samples = traces::fitting(random, &program);
     let (mut verdict, mut passes) = worked_out(&program, &samples);
+    if random.one_in(4 * damaged_in) {
+        program = other_sort(random, samples.contacts());
+    }
+    if samples.guard.is_some() && random.one_in(60) {
+        samples = traces::most(random);
+    }
     if random.one_in(4) {
         verdict = random.below(5) as u8;
     }
     if random.one_in(4) {
         passes = random.pick(&[1, 2, 3, passes + 1, passes + 256, passes + 65_536, u32::MAX]);
     }
-    let label = label(random);
+    let label = label(random, samples.contacts());
     Content {
         program,
-        trace: trace::pack(&samples),
-        n: samples.len() as u16,
+        traces: trace::packed(&samples),
         label,
         verdict,
         passes,
     }
 }
 
-/// A sound record's content.
-fn sound(random: &mut Random) -> Content {
-    content(random, 1_000_000)
+/// An accepted program of the other sort.
+fn other_sort(random: &mut Random, contacts: Contacts) -> Vec<u8> {
+    let other = match contacts {
+        Contacts::One => Contacts::Two,
+        Contacts::Two => Contacts::One,
+    };
+    programs::accepted(random, other)
 }
 
-/// A site label, sometimes of zeros, or none.
-fn label(random: &mut Random) -> Option<[u8; 8]> {
+/// A sound record's content.
+fn sound(random: &mut Random, contacts: Contacts) -> Content {
+    content_over(random, contacts, 1_000_000)
+}
+
+/// A site label, sometimes of zeros, or none; of two contacts none.
+fn label(random: &mut Random, contacts: Contacts) -> Option<[u8; 8]> {
     match random.below(6) {
+        _ if contacts == Contacts::Two => None,
         0 => Some([0; 8]),
         1 | 2 => Some(random.word().to_le_bytes()),
         _ => None,
@@ -42,7 +65,7 @@ fn label(random: &mut Random) -> Option<[u8; 8]> {
 }
 
 /// Verdict and passes of a program; for a refused one, any.
-fn worked_out(program: &[u8], samples: &[bool]) -> (u8, u32) {
+fn worked_out(program: &[u8], samples: &Samples) -> (u8, u32) {
     match program::check(program) {
         Ok(functions) => {
             let evaluation = search::evaluate(&functions, samples);
@@ -55,8 +78,7 @@ fn worked_out(program: &[u8], samples: &[bool]) -> (u8, u32) {
 /// An archive of some records, damaged or not.
 pub fn archive(random: &mut Random) -> Vec<u8> {
     if random.one_in(20) {
-        let length = random.between(0, 40);
-        return random.bytes(length);
+        return stray(random);
     }
     let mut archive = Vec::new();
     if random.one_in(6) {
@@ -71,22 +93,34 @@ pub fn archive(random: &mut Random) -> Vec<u8> {
         archive.extend(piece(random));
     }
     if random.one_in(6) {
-        archive.extend(both_formats(random));
+        archive.extend(all_formats(random));
     }
     archive
 }
 
-/// Sound records end to end that differ only by their label or its absence.
-fn both_formats(random: &mut Random) -> Vec<u8> {
-    let mut content = sound(random);
-    let mut labels = [Some([0; 8]), Some(random.word().to_le_bytes()), None];
-    random.shuffle(&mut labels);
-    let mut archive = Vec::new();
-    for label in labels {
-        content.label = label;
-        archive.extend(content.bytes());
+/// A few bytes, or the last of a record: none to some more than a trailer has.
+fn stray(random: &mut Random) -> Vec<u8> {
+    if random.one_in(2) {
+        let length = random.between(0, 40);
+        return random.bytes(length);
     }
-    archive
+    let contacts = random.pick(&Contacts::ALL);
+    let bytes = sound(random, contacts).bytes();
+    let length = random.between(0, 12);
+    bytes[bytes.len() - length..].to_vec()
+}
+
+/// Sound records end to end: over one contact with a label, with one of zeros and with none, and one over two contacts.
+fn all_formats(random: &mut Random) -> Vec<u8> {
+    let [one, two] = Contacts::ALL.map(|contacts| sound(random, contacts));
+    let labels = [Some([0; 8]), Some(random.word().to_le_bytes()), None];
+    let labelled = labels.map(|label| Content {
+        label,
+        ..one.clone()
+    });
+    let mut contents = [labelled.to_vec(), vec![two]].concat();
+    random.shuffle(&mut contents);
+    contents.iter().flat_map(Content::bytes).collect()
 }
 
 /// One record of an archive, sometimes damaged.
@@ -101,7 +135,8 @@ fn piece(random: &mut Random) -> Vec<u8> {
 /// A record with damage to its content, its trailer or its length.
 fn damaged(random: &mut Random, content: &mut Content) -> Vec<u8> {
     if random.one_in(4) {
-        traces::set_padding(random, &mut content.trace, content.n.into());
+        let trace = any_trace(random, &mut content.traces);
+        traces::set_padding(random, &mut trace.bytes, trace.n);
     }
     match random.below(8) {
         0 => content.verdict = random.pick(&[5, 6, 128, 255]),
@@ -113,7 +148,7 @@ fn damaged(random: &mut Random, content: &mut Content) -> Vec<u8> {
     }
     let mut bytes = content.bytes();
     match random.below(12) {
-        0..=4 => damage_trailer(random, &mut bytes),
+        0..=4 => damage_trailer(random, content.traces.contacts(), &mut bytes),
         5..=7 => damage_ends(random, &mut bytes),
         8 => flip(random, &mut bytes),
         _ => {}
@@ -121,21 +156,37 @@ fn damaged(random: &mut Random, content: &mut Content) -> Vec<u8> {
     bytes
 }
 
+/// The trace of any of the contacts.
+fn any_trace<'a>(random: &mut Random, traces: &'a mut PerContact<Trace>) -> &'a mut Trace {
+    match &mut traces.guard {
+        Some(guard) if random.one_in(2) => guard,
+        _ => &mut traces.ram,
+    }
+}
+
 /// More samples than a trace may have.
 fn long_trace(random: &mut Random, content: &mut Content) {
-    content.n = random.pick(&[4_096, 4_097, 4_104, 65_535]);
-    content.trace = random.bytes(trace::bytes_for(content.n.into()));
+    let n = random.pick(&[4_096, 4_097, 4_104, 65_535]);
+    *any_trace(random, &mut content.traces) = Trace {
+        bytes: random.bytes(trace::bytes_for(n)),
+        n: n as u64,
+    };
 }
 
 /// One field of the trailer, the verdict or the pass count changed.
-fn damage_trailer(random: &mut Random, bytes: &mut [u8]) {
-    let trailer = bytes.len() - 8;
+fn damage_trailer(random: &mut Random, contacts: Contacts, bytes: &mut [u8]) {
+    let counts = contacts.contacts().len();
+    let trailer = bytes.len() - 6 - 2 * counts;
+    let format = bytes.len() - 2;
     match random.below(9) {
-        0 => bytes[trailer + 7] = random.byte(),
-        1 => bytes[trailer + 6] = random.pick(&[0, 1, 2, 3, 0x52, 255]),
+        0 => bytes[format + 1] = random.byte(),
+        1 => bytes[format] = random.pick(&[0, 1, 2, 3, 4, 0x52, 255]),
         2 | 3 => shift(random, bytes, trailer),
         4 => shift(random, bytes, trailer + 2),
-        5 => shift(random, bytes, trailer + 4),
+        5 => {
+            let count = random.below(counts);
+            shift(random, bytes, trailer + 4 + 2 * count);
+        }
         6 => same_distances(bytes, trailer),
         7 => other_format(random, bytes, trailer),
         _ => bytes[trailer - 1 - random.below(5)] = random.byte(),
@@ -156,14 +207,16 @@ fn shift(random: &mut Random, bytes: &mut [u8], at: usize) {
     put_short(bytes, at, changed);
 }
 
-/// Some or all of what the other format's trailer has: the format byte, the first distance, the second.
+/// Some or all of what another format's trailer has: the format byte, the first distance, the second.
 fn other_format(random: &mut Random, bytes: &mut [u8], trailer: usize) {
-    let (format, change) = match bytes[trailer + 6] {
-        1 => (2, 8u16.wrapping_neg()),
-        _ => (1, 8),
+    let format = bytes.len() - 2;
+    let (others, change) = match bytes[format] {
+        1 => ([2, 3], 8u16.wrapping_neg()),
+        2 => ([1, 3], 8),
+        _ => ([1, 2], random.pick(&[8, 0])),
     };
     if random.one_in(2) {
-        bytes[trailer + 6] = format;
+        bytes[format] = random.pick(&others);
     }
     for at in [trailer, trailer + 2] {
         if random.one_in(2) {
@@ -210,20 +263,26 @@ fn flip(random: &mut Random, bytes: &mut [u8]) {
 pub fn of_length(random: &mut Random, length: usize) -> Vec<u8> {
     let mut archive = Vec::new();
     while length - archive.len() > 3_000 {
-        let bytes = sound(random).bytes();
+        let contacts = random.pick(&Contacts::ALL);
+        let bytes = sound(random, contacts).bytes();
         if archive.len() + bytes.len() + 100 <= length {
             archive.extend(bytes);
         }
     }
+    let contacts = random.pick(&Contacts::ALL);
+    let empty = PerContact {
+        ram: Vec::new(),
+        guard: (contacts == Contacts::Two).then(Vec::new),
+    };
     let mut last = Content {
         program: Vec::new(),
-        trace: Vec::new(),
-        n: 0,
-        label: label(random),
+        traces: trace::packed(&empty),
+        label: label(random, contacts),
         verdict: 1,
         passes: 2,
     };
-    last.program = programs::of_size(length - archive.len() - last.bytes().len());
+    let rest = length - archive.len() - last.bytes().len();
+    last.program = programs::of_size(contacts, rest);
     archive.extend(last.bytes());
     archive
 }

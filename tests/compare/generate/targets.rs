@@ -2,27 +2,29 @@
 
 use std::sync::OnceLock;
 
-use super::super::language::{depths, pairs, triples, Place, Sort, DEEPEST};
+use super::super::language::{demands, depths, pairs, triples, Place, Sort, DEEPEST};
+use super::super::oracle::program::{Contacts, Demand, Kind};
 use super::super::random::Random;
-use super::writer::Shape;
+use super::writer::{settled, Mix, Shape};
 
-/// A node at the end of a path.
+/// A node at the end of a path, in a program of a sort.
 #[derive(Clone, Debug)]
 pub struct Target {
+    pub contacts: Contacts,
     /// The places on the path, the node's own last.
     pub path: Vec<Place>,
     pub sort: Sort,
     /// The depth at which the node stands.
     pub depth: usize,
-    /// Whether the first node of the path is a list.
-    pub list: bool,
+    /// What is demanded of the first node of the path.
+    pub demand: Demand,
 }
 
 /// What is known of a function's kinds: the number of its parameters, its result, and perhaps one parameter.
 pub struct Kinds {
     pub count: usize,
-    pub result: bool,
-    pub argument: Option<(usize, bool)>,
+    pub result: Kind,
+    pub argument: Option<(usize, Kind)>,
 }
 
 impl Kinds {
@@ -30,14 +32,14 @@ impl Kinds {
         let same = shape.parameters.len() == self.count && shape.result == self.result;
         same && self
             .argument
-            .is_none_or(|(which, list)| shape.parameters[which] == list)
+            .is_none_or(|(which, kind)| shape.parameters[which] == kind)
     }
 
-    /// Such a function; of its other parameters one in so many is a list.
-    pub fn shape(&self, random: &mut Random, lists: usize) -> Shape {
-        let mut parameters: Vec<bool> = (0..self.count).map(|_| random.one_in(lists)).collect();
-        if let Some((which, list)) = self.argument {
-            parameters[which] = list;
+    /// Such a function, with any other parameters.
+    pub fn shape(&self, random: &mut Random, mix: Mix) -> Shape {
+        let mut parameters: Vec<Kind> = (0..self.count).map(|_| mix.kind(random)).collect();
+        if let Some((which, kind)) = self.argument {
+            parameters[which] = kind;
         }
         Shape {
             parameters,
@@ -55,9 +57,6 @@ enum Aim {
     Triple(Place, Place, Sort),
 }
 
-/// How often a whole body comes among the targets.
-const BODY_TIMES: usize = 16;
-
 /// Goes through a list in steps of this length, round and round; it divides no list's length.
 const STRIDE: usize = 7_919;
 
@@ -67,85 +66,110 @@ fn in_turn<T: Copy>(list: &[T], turn: usize) -> T {
     list[turn % list.len() * STRIDE % list.len()]
 }
 
-/// Every pair at every depth at which it may stand, and below a node in every place. Whole bodies, which have one
-/// depth, come as often as others at some depths.
-fn aims() -> &'static [Aim] {
-    static AIMS: OnceLock<Vec<Aim>> = OnceLock::new();
-    AIMS.get_or_init(|| {
+/// The depths at which a pair is a target: over one contact all; over two the least, the next, a middle one and the
+/// greatest. Whole bodies, which have one depth, come as often as others at some depths.
+fn aimed_depths(contacts: Contacts, place: Place, sort: Sort) -> Vec<usize> {
+    let depths = depths(place, sort);
+    let (least, deepest) = (*depths.start(), *depths.end());
+    match contacts {
+        Contacts::One if place.is_body() => vec![1; 16],
+        Contacts::One => depths.collect(),
+        Contacts::Two if place.is_body() => vec![1; 4],
+        Contacts::Two => vec![least, least + 1, DEEPEST / 2, deepest],
+    }
+}
+
+/// Every pair at the depths aimed at, and below a node in every place that is wanted.
+fn aims(contacts: Contacts) -> &'static [Aim] {
+    static AIMS: [OnceLock<Vec<Aim>>; 2] = [const { OnceLock::new() }; 2];
+    AIMS[contacts as usize].get_or_init(|| {
         let mut aims = Vec::new();
-        for (place, sort) in pairs() {
-            let times = if place.is_body() { BODY_TIMES } else { 1 };
-            for depth in depths(place, sort) {
-                aims.extend([Aim::Pair(place, sort, depth)].repeat(times));
-            }
+        for (place, sort) in pairs(contacts) {
+            let depths = aimed_depths(contacts, place, sort).into_iter();
+            aims.extend(depths.map(|depth| Aim::Pair(place, sort, depth)));
         }
-        let below = triples().into_iter();
+        let below = triples(contacts).into_iter();
         aims.extend(below.map(|(above, place, sort)| Aim::Triple(above, place, sort)));
         aims
     })
 }
 
 /// Every leaf in a last operand.
-fn endings() -> &'static [(Place, Sort)] {
-    static ENDINGS: OnceLock<Vec<(Place, Sort)>> = OnceLock::new();
+fn endings(contacts: Contacts) -> &'static [(Place, Sort)] {
+    static ENDINGS: [OnceLock<Vec<(Place, Sort)>>; 2] = [const { OnceLock::new() }; 2];
     let ends =
         |(place, sort): &(Place, Sort)| place.is_last() && !place.is_body() && sort.below() == 0;
-    ENDINGS.get_or_init(|| pairs().into_iter().filter(ends).collect())
+    let all = || pairs(contacts).into_iter().filter(ends).collect();
+    ENDINGS[contacts as usize].get_or_init(all)
 }
 
 /// How many targets there are, and how many to end a program with.
-pub fn count() -> usize {
-    aims().len()
+pub fn count(contacts: Contacts) -> usize {
+    aims(contacts).len()
 }
 
-pub fn count_endings() -> usize {
-    endings().len()
+pub fn count_endings(contacts: Contacts) -> usize {
+    endings(contacts).len()
 }
 
 /// A target.
-pub fn target(random: &mut Random, turn: usize) -> Target {
-    match in_turn(aims(), turn) {
-        Aim::Pair(place, sort, depth) => Target::new(random, vec![place], sort, depth),
+pub fn target(random: &mut Random, contacts: Contacts, turn: usize) -> Target {
+    match in_turn(aims(contacts), turn) {
+        Aim::Pair(place, sort, depth) => Target::new(random, contacts, vec![place], sort, depth),
         Aim::Triple(above, place, sort) => {
             let deepest = *depths(place, sort).end();
-            let any = random.between(3, 12);
+            let any = random.between(1 + above.least_depth(), 12);
             let depth = match above {
                 Place::Body(_) => 2,
                 _ if random.one_in(8) => deepest,
                 _ => any,
             };
-            Target::new(random, vec![above, place], sort, depth)
+            Target::new(random, contacts, vec![above, place], sort, depth)
         }
     }
 }
 
 /// A leaf to end a program with, mostly at no great depth; the node above it stands in a last operand or is a body.
-pub fn ending(random: &mut Random, turn: usize) -> Target {
-    let (place, sort) = in_turn(endings(), turn);
+pub fn ending(random: &mut Random, contacts: Contacts, turn: usize) -> Target {
+    let (place, sort) = in_turn(endings(contacts), turn);
     let fits = |above: &Place| {
-        above.is_last() && place.kind_above().is_none_or(|kind| kind == above.list())
+        let demand = above.demand(contacts);
+        above.is_last() && place.demand_above().is_none_or(|it| it == demand)
     };
-    let above: Vec<Place> = Place::all().into_iter().filter(fits).collect();
+    let above: Vec<Place> = Place::all(contacts).into_iter().filter(fits).collect();
     let above = random.pick(&above);
+    let least = 1 + above.least_depth();
     let any = random.between(5, 12);
     let depth = match above {
         Place::Body(_) => 2,
-        _ => random.pick(&[3, 3, any, DEEPEST]),
+        _ => random.pick(&[least, least, any, DEEPEST]),
     };
-    Target::new(random, vec![above, place], sort, depth)
+    Target::new(random, contacts, vec![above, place], sort, depth)
 }
 
 impl Target {
-    fn new(random: &mut Random, path: Vec<Place>, sort: Sort, depth: usize) -> Self {
-        let list = match path[0] {
-            Place::Body(list) => list,
-            place => place.kind_above().unwrap_or(random.one_in(2)),
+    fn new(
+        random: &mut Random,
+        contacts: Contacts,
+        path: Vec<Place>,
+        sort: Sort,
+        depth: usize,
+    ) -> Self {
+        // A node that is the whole body is of one kind.
+        let start = depth - path.len();
+        let mut anything = demands(contacts).to_vec();
+        anything.retain(|demand| *demand != Demand::Either || start > 1);
+        let any = random.pick(&anything);
+        let demand = match path[0] {
+            Place::Body(kind) => Demand::Only(kind),
+            place => place.demand_above().unwrap_or(any),
         };
         Target {
+            contacts,
             path,
             sort,
             depth,
-            list,
+            demand,
         }
     }
 
@@ -154,61 +178,76 @@ impl Target {
         self.depth - self.path.len()
     }
 
-    /// The kind that the node has.
-    pub fn own_list(&self) -> bool {
-        self.path[self.path.len() - 1].list()
+    /// What is demanded of the node.
+    pub fn own_demand(&self) -> Demand {
+        self.path[self.path.len() - 1].demand(self.contacts)
     }
 
-    /// Kinds for a function whose body may hold the target; of its other parameters one in so many is a list.
-    pub fn owner(&self, random: &mut Random, lists: usize) -> Shape {
-        let mut shape = Shape::any(random, lists);
-        if self.start() <= 1 {
-            shape.result = self.list;
+    /// The result of a function whose body may hold the target, if that matters. Above a list of either contact there
+    /// is hd or null, which is a Bool: the first node of a body, or below an if that begins it.
+    fn result(&self) -> Option<Kind> {
+        match (self.start(), self.demand) {
+            (0 | 1, Demand::Only(kind)) => Some(kind),
+            (2 | 3, Demand::Either) => Some(Kind::Bool),
+            _ => None,
         }
-        let (which, list) = match self.sort {
-            Sort::Parameter(which) => (which, self.own_list()),
-            Sort::IfParameter => (random.below(4), false),
-            Sort::HeadOfParameter | Sort::TailOfParameter | Sort::NullOfParameter => {
-                (random.below(4), true)
+    }
+
+    /// The kind of the parameter that the node needs, and its place if that matters.
+    fn parameter(&self) -> Option<(Kind, Option<usize>)> {
+        match self.sort {
+            Sort::Parameter(which, kind) => Some((kind, Some(which))),
+            Sort::IfParameter => Some((Kind::Bool, None)),
+            Sort::HeadOfParameter(contact)
+            | Sort::TailOfParameter(contact)
+            | Sort::NullOfParameter(contact)
+            | Sort::IfHeadOfParameter(contact)
+            | Sort::IfNullOfParameter(contact) => Some((Kind::List(contact), None)),
+            _ => None,
+        }
+    }
+
+    /// Kinds for a function whose body may hold the target.
+    pub fn owner(&self, random: &mut Random, mix: Mix) -> Shape {
+        let mut shape = Shape::any(random, mix);
+        if let Some(result) = self.result() {
+            shape.result = result;
+        }
+        if let Some((kind, which)) = self.parameter() {
+            let which = which.unwrap_or_else(|| random.below(4));
+            while shape.parameters.len() <= which {
+                shape.parameters.push(mix.kind(random));
             }
-            Sort::IfHeadOfParameter | Sort::IfNullOfParameter => (random.below(4), true),
-            _ => return shape,
-        };
-        while shape.parameters.len() <= which {
-            shape.parameters.push(random.one_in(lists));
+            shape.parameters[which] = kind;
         }
-        shape.parameters[which] = list;
         shape
     }
 
     /// Whether the target may be in the body of a function of these kinds.
     pub fn fits(&self, shape: &Shape) -> bool {
-        let has = |list: bool| shape.parameters.contains(&list);
-        let parameter = match self.sort {
-            Sort::Parameter(which) => shape.parameters.get(which) == Some(&self.own_list()),
-            Sort::IfParameter => has(false),
-            Sort::HeadOfParameter | Sort::TailOfParameter | Sort::NullOfParameter => has(true),
-            Sort::IfHeadOfParameter | Sort::IfNullOfParameter => has(true),
-            _ => true,
+        let parameter = match self.parameter() {
+            Some((kind, Some(which))) => shape.parameters.get(which) == Some(&kind),
+            Some((kind, None)) => shape.parameters.contains(&kind),
+            None => true,
         };
-        parameter && (self.start() > 1 || shape.result == self.list)
+        parameter && self.result().is_none_or(|result| shape.result == result)
     }
 
     /// The kinds of the functions that the path calls, and the node itself.
-    pub fn callees(&self) -> Vec<Kinds> {
+    pub fn callees(&self, random: &mut Random) -> Vec<Kinds> {
         let mut callees = Vec::new();
-        let mut result = self.list;
+        let mut demand = self.demand;
         for place in &self.path {
-            if let Place::Argument(count, which, list) = *place {
+            if let Place::Argument(count, which, kind) = *place {
                 callees.push(Kinds {
                     count,
-                    result,
-                    argument: Some((which, list)),
+                    result: settled(random, self.contacts, demand),
+                    argument: Some((which, kind)),
                 });
             }
-            result = place.list();
+            demand = place.demand(self.contacts);
         }
-        if let Sort::Call(count) = self.sort {
+        if let Sort::Call(count, result) = self.sort {
             callees.push(Kinds {
                 count,
                 result,

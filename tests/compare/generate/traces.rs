@@ -1,13 +1,10 @@
 //! Traces and tables for a program.
 
-use super::super::oracle::{program, search, trace};
+use super::super::oracle::program::{self, Contacts};
+use super::super::oracle::search;
+use super::super::oracle::trace::{self, PerContact, Samples, Trace, Traces};
 use super::super::random::Random;
-
-/// A lent trace.
-pub struct Trace {
-    pub bytes: Vec<u8>,
-    pub n: u64,
-}
+use super::programs;
 
 /// How much work a case may be.
 struct Limits {
@@ -16,15 +13,19 @@ struct Limits {
 }
 
 impl Limits {
-    /// Mostly small.
-    fn any(random: &mut Random) -> Self {
+    /// Mostly small, over two contacts half as large.
+    fn any(random: &mut Random, contacts: Contacts) -> Self {
         let (cells, visits) = match random.below(400) {
             0 => (400_000, 8_000_000),
             1..=12 => (20_000, 4_000_000),
             13..=100 => (5_000, 400_000),
             _ => (600, 100_000),
         };
-        Limits { cells, visits }
+        let parts = contacts.contacts().len() as u64;
+        Limits {
+            cells: cells / parts,
+            visits: visits / parts,
+        }
     }
 }
 
@@ -42,39 +43,104 @@ fn count(random: &mut Random) -> usize {
     }
 }
 
-/// So many samples.
-pub fn samples(random: &mut Random, n: usize) -> Vec<bool> {
+/// Numbers of samples, mostly small. Of two contacts one may have none, or both the same number.
+fn counts(random: &mut Random, contacts: Contacts) -> PerContact<usize> {
+    let ram = count(random);
+    if contacts == Contacts::One {
+        return PerContact { ram, guard: None };
+    }
+    let (ram, guard) = match random.below(12) {
+        0 => (0, count(random)),
+        1 => (ram, 0),
+        2..=5 => (ram, ram),
+        _ => (ram, count(random)),
+    };
+    PerContact {
+        ram,
+        guard: Some(guard),
+    }
+}
+
+/// So many samples of each contact.
+pub fn samples(random: &mut Random, counts: &PerContact<usize>) -> Samples {
+    Samples {
+        ram: contact(random, counts.ram),
+        guard: counts.guard.map(|m| contact(random, m)),
+    }
+}
+
+/// So many samples of a contact.
+fn contact(random: &mut Random, n: usize) -> Vec<bool> {
     let ones = random.pick(&[0, 1, 4, 4, 4, 7, 8]);
     (0..n).map(|_| random.below(8) < ones).collect()
 }
 
-/// Samples for a program, few enough that its table and passes stay within limits.
-pub fn fitting(random: &mut Random, program: &[u8]) -> Vec<bool> {
-    let n = count(random);
-    let mut samples = samples(random, n);
+/// Samples for a program, of the contacts that it speaks of, few enough that its table and passes stay within limits.
+pub fn fitting(random: &mut Random, program: &[u8]) -> Samples {
+    let contacts = programs::contacts(program);
+    let counts = counts(random, contacts);
+    let mut samples = samples(random, &counts);
     let Ok(functions) = program::check(program) else {
         return samples;
     };
-    let limits = Limits::any(random);
-    while heavy(&functions, &samples, &limits) && !samples.is_empty() {
-        let drop = 1 + samples.len() / 4;
-        samples.truncate(samples.len() - drop);
+    let limits = Limits::any(random, contacts);
+    while heavy(&functions, &samples, &limits) && samples.each().any(|it| !it.is_empty()) {
+        let shorter = match &mut samples.guard {
+            Some(guard) if !guard.is_empty() && (samples.ram.is_empty() || random.one_in(2)) => {
+                guard
+            }
+            _ => &mut samples.ram,
+        };
+        let drop = 1 + shorter.len() / 4;
+        shorter.truncate(shorter.len() - drop);
     }
     samples
 }
 
 /// Whether evaluating would be beyond the limits.
-fn heavy(functions: &[program::Function], samples: &[bool], limits: &Limits) -> bool {
-    search::cells_needed(functions, samples.len()) > limits.cells
+fn heavy(functions: &[program::Function], samples: &Samples, limits: &Limits) -> bool {
+    search::cells_needed(functions, samples) > limits.cells
         || search::evaluate(functions, samples).visits > limits.visits
 }
 
-/// The samples as a lent trace.
-pub fn packed(samples: &[bool]) -> Trace {
-    Trace {
-        bytes: trace::pack(samples),
-        n: samples.len() as u64,
+/// The most samples of two contacts, which no program but one of main alone has cells for.
+pub fn most(random: &mut Random) -> Samples {
+    let counts = PerContact {
+        ram: 4_095,
+        guard: Some(4_095),
+    };
+    samples(random, &counts)
+}
+
+/// Lent traces for a program as the cases take them: sometimes damaged, rarely for a program of the other sort.
+pub fn any(random: &mut Random, program: &[u8], damaged_in: usize) -> Traces {
+    let mut samples = fitting(random, program);
+    if samples.guard.is_some() && random.one_in(60) {
+        samples = most(random);
     }
+    let mut traces = trace::packed(&samples);
+    if random.one_in(damaged_in) {
+        damage(random, &mut traces);
+    }
+    if random.one_in(24) {
+        other_sort(random, &mut traces);
+    }
+    traces
+}
+
+/// Takes the guard's trace away, or adds one.
+fn other_sort(random: &mut Random, traces: &mut Traces) {
+    traces.guard = match traces.guard {
+        Some(_) => None,
+        None => {
+            let n = random.pick(&[0, 1, 8, 13]);
+            let samples = contact(random, n);
+            Some(Trace {
+                bytes: trace::pack(&samples),
+                n: n as u64,
+            })
+        }
+    };
 }
 
 /// Sets a bit above the last of n samples, or some, if their last byte has any.
@@ -88,8 +154,22 @@ pub fn set_padding(random: &mut Random, bytes: &mut [u8], n: u64) {
     }
 }
 
+/// Damage to one of the traces, or to both.
+fn damage(random: &mut Random, traces: &mut Traces) {
+    let Some(guard) = &mut traces.guard else {
+        return damage_one(random, &mut traces.ram);
+    };
+    let which = random.below(4);
+    if which != 1 {
+        damage_one(random, &mut traces.ram);
+    }
+    if which != 0 {
+        damage_one(random, guard);
+    }
+}
+
 /// Padding bits set, or a wrong length or number of samples, or both; sometimes by chance still a right trace.
-pub fn damage(random: &mut Random, trace: &mut Trace) {
+fn damage_one(random: &mut Random, trace: &mut Trace) {
     if random.one_in(2) {
         set_padding(random, &mut trace.bytes, trace.n);
         if !random.one_in(4) {
@@ -122,10 +202,11 @@ fn too_long(random: &mut Random) -> Trace {
     }
 }
 
-/// A table for a program on n samples: too short, exact or longer, filled with garbage.
-pub fn table(random: &mut Random, program: &[u8], n: u64) -> Vec<u16> {
-    let needed = match program::check(program) {
-        Ok(functions) => search::cells_needed(&functions, n.min(4_095) as usize),
+/// A table for a program on traces: too short, exact or longer, filled with garbage.
+pub fn table(random: &mut Random, program: &[u8], traces: &Traces) -> Vec<u16> {
+    let samples = traces.map(|trace| vec![false; trace.n.min(4_095) as usize]);
+    let needed = match program::check_for(traces.contacts(), program) {
+        Ok(functions) => search::cells_needed(&functions, &samples),
         Err(_) => random.below(30) as u64,
     };
     if needed > 400_000 {

@@ -1,5 +1,7 @@
 //! Programs with wide bodies, and programs of the greatest length that end in a target.
 
+use super::super::language::{kinds, RAM};
+use super::super::oracle::program::{Contacts, Demand, Kind};
 use super::super::random::Random;
 use super::bodies::{Case, Plan, Role};
 use super::chains::Chain;
@@ -14,9 +16,9 @@ const WIDE: usize = 0;
 const ENDING: usize = 1;
 
 /// A program with one or two wide bodies: calls of four arguments in calls of four arguments.
-pub fn wide(random: &mut Random) -> Case {
+pub fn wide(random: &mut Random, contacts: Contacts) -> Case {
     loop {
-        let plan = wide_plan(random);
+        let plan = wide_plan(random, contacts);
         let samples = plan.samples(random, 300, 24);
         let (total, mut bodies) = plan.callees(random);
         let callees = callees(random, &total);
@@ -38,13 +40,13 @@ pub fn wide(random: &mut Random) -> Case {
 }
 
 /// The functions of a program with wide bodies: main or another has one.
-fn wide_plan(random: &mut Random) -> Plan {
-    let mut plan = Plan::new(random);
+fn wide_plan(random: &mut Random, contacts: Contacts) -> Plan {
+    let mut plan = Plan::new(random, contacts);
     for count in [4, 4, 3, 2, 1] {
-        for result in [false, true] {
+        for result in kinds(contacts) {
             let kinds = Kinds {
                 count,
-                result,
+                result: *result,
                 argument: None,
             };
             plan.callee(random, &kinds);
@@ -54,7 +56,7 @@ fn wide_plan(random: &mut Random) -> Plan {
         plan.roles[0] = Role::Owner(WIDE);
     }
     if random.one_in(2) || plan.owners().is_empty() {
-        let shape = Shape::any(random, plan.lists);
+        let shape = Shape::any(random, plan.mix);
         plan.add(shape, Role::Owner(WIDE));
     }
     let functions = plan.shapes.len() + random.below(3);
@@ -88,7 +90,7 @@ fn exact(
         drawing: false,
         out: Vec::new(),
     };
-    exact.expression(preview.shapes[own].result, length, depth);
+    exact.expression(Demand::Only(preview.shapes[own].result), length, depth);
     exact.out
 }
 
@@ -106,7 +108,8 @@ pub fn longest(random: &mut Random, target: &Target) -> Case {
         };
         let last = plan.shapes.len() - 1;
         bodies[last] = ended_body(random, &preview, &callees, target);
-        let written: usize = bodies.iter().map(|body| 4 + body.len()).sum();
+        let header = target.contacts.header();
+        let written: usize = bodies.iter().map(|body| header + body.len()).sum();
         let mut owners = plan.owners();
         owners.retain(|(_, number)| *number == WIDE);
         let rest = MOST_BYTES.saturating_sub(1 + written);
@@ -124,28 +127,26 @@ pub fn longest(random: &mut Random, target: &Target) -> Case {
 
 /// The functions of a program that ends in a target; main and some others fill it up.
 fn ended_plan(random: &mut Random, target: &Target) -> Plan {
-    let mut plan = Plan::new(random);
+    let mut plan = Plan::new(random, target.contacts);
     plan.roles[0] = Role::Owner(WIDE);
-    // The one way from a list to a Bool in a last operand.
-    let count = random.between(1, 4);
-    let from_list = Kinds {
-        count,
-        result: true,
-        argument: Some((count - 1, false)),
-    };
-    for kinds in target.callees().iter().chain([&from_list]) {
-        plan.callee(random, kinds);
+    if target.contacts == Contacts::One {
+        // The one way from a list to a Bool in a last operand.
+        plan.way(random, RAM, Kind::Bool);
     }
+    for kinds in target.callees(random) {
+        plan.callee(random, &kinds);
+    }
+    let mix = plan.mix.even();
     for _ in 0..random.between(3, 6) {
         let shape = Shape {
-            parameters: vec![random.one_in(2); random.below(2)],
-            result: random.one_in(2),
+            parameters: (0..random.below(2)).map(|_| mix.kind(random)).collect(),
+            result: mix.kind(random),
         };
         plan.add(shape, Role::Owner(WIDE));
     }
     let functions = plan.shapes.len() + random.pick(&[0, 0, 2, 8]);
     plan.fill(random, functions);
-    let owner = target.owner(random, plan.lists);
+    let owner = target.owner(random, plan.mix);
     plan.add(owner, Role::Owner(ENDING));
     plan
 }

@@ -1,5 +1,7 @@
 //! Writes random expressions that respect the kinds.
 
+use super::super::language::{kinds, BOOL};
+use super::super::oracle::program::{Contact, Contacts, Demand, Kind};
 use super::super::random::Random;
 
 pub const FALSE: u8 = 0x00;
@@ -11,29 +13,84 @@ pub const NULL: u8 = 0x22;
 pub const IF: u8 = 0x23;
 pub const CALL: u8 = 0x80;
 
-/// A function's kinds; true is a list.
+/// The byte of the empty list of a contact.
+pub fn empty(contact: Contact) -> u8 {
+    EMPTY + contact as u8
+}
+
+/// A function's kinds.
 #[derive(Clone, Debug)]
 pub struct Shape {
-    pub parameters: Vec<bool>,
-    pub result: bool,
+    pub parameters: Vec<Kind>,
+    pub result: Kind,
+}
+
+/// How kinds are drawn: one in so many is a list, of one of the contacts.
+#[derive(Clone, Copy)]
+pub struct Mix {
+    pub contacts: Contacts,
+    pub lists: usize,
+}
+
+impl Mix {
+    pub fn kind(self, random: &mut Random) -> Kind {
+        match random.one_in(self.lists) {
+            true => list(random, self.contacts),
+            false => Kind::Bool,
+        }
+    }
+
+    /// The same contacts, and as many lists as Bools.
+    pub fn even(self) -> Mix {
+        Mix { lists: 2, ..self }
+    }
+}
+
+/// A list of any of the contacts.
+pub fn list(random: &mut Random, contacts: Contacts) -> Kind {
+    Kind::List(random.pick(contacts.contacts()))
 }
 
 impl Shape {
-    /// Any kinds; one parameter in so many is a list.
-    pub fn any(random: &mut Random, lists: usize) -> Self {
+    /// Any kinds.
+    pub fn any(random: &mut Random, mix: Mix) -> Self {
         let count = random.between(0, 4);
         Shape {
-            parameters: (0..count).map(|_| random.one_in(lists)).collect(),
-            result: random.one_in(2),
+            parameters: (0..count).map(|_| mix.kind(random)).collect(),
+            result: mix.even().kind(random),
         }
     }
 
     /// Main's kinds.
-    pub fn main() -> Self {
+    pub fn main(contacts: Contacts) -> Self {
         Shape {
-            parameters: vec![true],
-            result: false,
+            parameters: contacts.main(),
+            result: Kind::Bool,
         }
+    }
+}
+
+/// A kind that a demand allows.
+pub fn settled(random: &mut Random, contacts: Contacts, demand: Demand) -> Kind {
+    match demand {
+        Demand::Only(kind) => kind,
+        Demand::Either => list(random, contacts),
+    }
+}
+
+/// The sort of a program with these functions: main, the first of them, has a list of each contact.
+fn contacts(shapes: &[Shape]) -> Contacts {
+    match shapes[0].parameters.len() {
+        1 => Contacts::One,
+        _ => Contacts::Two,
+    }
+}
+
+/// The byte of a constant that a demand allows, in a program with these functions.
+pub fn constant(random: &mut Random, shapes: &[Shape], demand: Demand) -> u8 {
+    match settled(random, contacts(shapes), demand) {
+        Kind::Bool => FALSE + random.below(2) as u8,
+        Kind::List(contact) => empty(contact),
     }
 }
 
@@ -50,17 +107,16 @@ pub struct Writer<'a> {
 impl Writer<'_> {
     /// A body of at most so many bytes.
     pub fn body(&mut self, room: usize) {
-        let result = self.shapes[self.own].result;
-        let list = self.parameter(true);
-        match list {
-            Some(list) if room >= 8 && !self.random.one_in(4) => self.guarded(list, room),
+        let result = Demand::Only(self.shapes[self.own].result);
+        match self.parameter(Demand::Either) {
+            Some(list) if room >= 8 && !self.random.one_in(4) => self.by_list(list, room),
             _ => self.expression(result, room, 64),
         }
     }
 
     /// An if on the emptiness of a list, and sometimes one on its head; the rest mostly recurs.
-    fn guarded(&mut self, list: u8, room: usize) {
-        let result = self.shapes[self.own].result;
+    fn by_list(&mut self, list: u8, room: usize) {
+        let result = Demand::Only(self.shapes[self.own].result);
         self.out.extend([IF, NULL, list]);
         let base = self.random.between(1, (room - 7).min(4));
         let before = self.out.len();
@@ -76,23 +132,24 @@ impl Writer<'_> {
         }
     }
 
-    /// An expression of a kind, at most so long and so deep.
-    pub fn expression(&mut self, list: bool, room: usize, depth: usize) {
+    /// An expression for a demand, at most so long and so deep.
+    pub fn expression(&mut self, demand: Demand, room: usize, depth: usize) {
         if room < 2 || depth < 2 {
-            return self.leaf(list);
+            return self.leaf(demand);
         }
         match self.random.below(12) {
-            0..=2 => self.leaf(list),
-            3..=5 => self.unary(list, room, depth),
-            6..=8 => self.choice(list, room, depth),
-            _ => self.call(list, room, depth),
+            0..=2 => self.leaf(demand),
+            3..=5 => self.unary(demand, room, depth),
+            6..=8 => self.choice(demand, room, depth),
+            _ => self.call(demand, room, depth),
         }
     }
 
-    /// The byte of a random parameter of a kind.
-    fn parameter(&mut self, list: bool) -> Option<u8> {
+    /// The byte of a random parameter that a demand allows.
+    fn parameter(&mut self, demand: Demand) -> Option<u8> {
         let kinds = &self.shapes[self.own].parameters;
-        let places: Vec<usize> = (0..kinds.len()).filter(|i| kinds[*i] == list).collect();
+        let fits = |place: &usize| demand.allows(kinds[*place]);
+        let places: Vec<usize> = (0..kinds.len()).filter(fits).collect();
         if places.is_empty() {
             return None;
         }
@@ -100,21 +157,20 @@ impl Writer<'_> {
     }
 
     /// A node without operands.
-    pub fn leaf(&mut self, list: bool) {
-        if self.random.one_in(8) && self.constant_function(list) {
+    pub fn leaf(&mut self, demand: Demand) {
+        if self.random.one_in(8) && self.constant_function(demand) {
             return;
         }
-        let byte = match self.parameter(list) {
+        let byte = match self.parameter(demand) {
             Some(byte) if !self.random.one_in(4) => byte,
-            _ if list => EMPTY,
-            _ => FALSE + self.random.below(2) as u8,
+            _ => constant(self.random, self.shapes, demand),
         };
         self.out.push(byte);
     }
 
     /// A call of a function without parameters, if there is one.
-    fn constant_function(&mut self, list: bool) -> bool {
-        let callees = self.callees(list, 1);
+    fn constant_function(&mut self, demand: Demand) -> bool {
+        let callees = self.callees(demand, 1);
         if callees.is_empty() {
             return false;
         }
@@ -123,48 +179,54 @@ impl Writer<'_> {
         true
     }
 
-    /// The functions of a result kind whose call fits the room.
-    fn callees(&self, list: bool, room: usize) -> Vec<usize> {
-        let fits = |shape: &Shape| shape.result == list && shape.parameters.len() < room;
+    /// The functions with a result that a demand allows whose call fits the room.
+    fn callees(&self, demand: Demand, room: usize) -> Vec<usize> {
+        let fits = |shape: &Shape| demand.allows(shape.result) && shape.parameters.len() < room;
         (0..self.shapes.len())
             .filter(|callee| fits(&self.shapes[*callee]))
             .collect()
     }
 
-    /// The functions of a result kind that have parameters.
-    fn users(&self, list: bool) -> Vec<usize> {
-        let mut callees = self.callees(list, 5);
+    /// The functions with a result that a demand allows that have parameters.
+    fn users(&self, demand: Demand) -> Vec<usize> {
+        let mut callees = self.callees(demand, 5);
         callees.retain(|callee| !self.shapes[*callee].parameters.is_empty());
         callees
     }
 
-    /// hd, tl or null.
-    fn unary(&mut self, list: bool, room: usize, depth: usize) {
-        let node = match list {
-            true => TAIL,
-            false => self.random.pick(&[HEAD, HEAD, NULL]),
+    /// hd, tl or null without its operand; gives what that must be.
+    fn node_of_list(&mut self, demand: Demand, of_bool: &[u8]) -> Demand {
+        let (node, below) = match demand {
+            BOOL => (self.random.pick(of_bool), Demand::Either),
+            _ => (TAIL, demand),
         };
         self.out.push(node);
-        self.expression(true, room - 1, depth - 1);
+        below
+    }
+
+    /// hd, tl or null.
+    fn unary(&mut self, demand: Demand, room: usize, depth: usize) {
+        let below = self.node_of_list(demand, &[HEAD, HEAD, NULL]);
+        self.expression(below, room - 1, depth - 1);
     }
 
     /// An if.
-    fn choice(&mut self, list: bool, room: usize, depth: usize) {
+    fn choice(&mut self, demand: Demand, room: usize, depth: usize) {
         if room < 4 {
-            return self.unary(list, room, depth);
+            return self.unary(demand, room, depth);
         }
         let rooms = self.split(room - 1, 3);
         self.out.push(IF);
-        self.expression(false, rooms[0], depth - 1);
-        self.expression(list, rooms[1], depth - 1);
-        self.expression(list, rooms[2], depth - 1);
+        self.expression(BOOL, rooms[0], depth - 1);
+        self.expression(demand, rooms[1], depth - 1);
+        self.expression(demand, rooms[2], depth - 1);
     }
 
     /// A call; its lists are often tails of parameters.
-    fn call(&mut self, list: bool, room: usize, depth: usize) {
-        let callees = self.callees(list, room);
+    fn call(&mut self, demand: Demand, room: usize, depth: usize) {
+        let callees = self.callees(demand, room);
         if callees.is_empty() || depth < 2 {
-            return self.leaf(list);
+            return self.leaf(demand);
         }
         let callee = self.callee(&callees);
         let shapes = self.shapes;
@@ -186,14 +248,14 @@ impl Writer<'_> {
     }
 
     /// An argument of a call.
-    fn argument(&mut self, list: bool, room: usize, depth: usize) {
+    fn argument(&mut self, kind: Kind, room: usize, depth: usize) {
+        let demand = Demand::Only(kind);
         let other = if self.climb { 10 } else { 2 };
-        match self.parameter(true) {
-            Some(byte) if list && room >= 2 && depth >= 2 && !self.random.one_in(other) => {
-                self.out.extend([TAIL, byte])
-            }
-            _ if self.climb || self.random.one_in(3) => self.leaf(list),
-            _ => self.expression(list, room, depth),
+        let tail = kind != Kind::Bool && room >= 2 && depth >= 2;
+        match self.parameter(demand) {
+            Some(byte) if tail && !self.random.one_in(other) => self.out.extend([TAIL, byte]),
+            _ if self.climb || self.random.one_in(3) => self.leaf(demand),
+            _ => self.expression(demand, room, depth),
         }
     }
 
@@ -213,66 +275,67 @@ impl Writer<'_> {
         rooms
     }
 
-    /// So many nodes, each the first operand of the one before; gives the kind due next.
-    pub fn descent(&mut self, mut list: bool, nodes: usize) -> bool {
+    /// So many nodes, each the first operand of the one before; gives what is demanded next.
+    pub fn descent(&mut self, mut demand: Demand, nodes: usize) -> Demand {
         let shapes = self.shapes;
         for _ in 0..nodes {
-            let callees = self.users(list);
+            let callees = self.users(demand);
             match self.random.below(4) {
                 0 => {
                     self.out.push(IF);
-                    list = false;
+                    demand = BOOL;
                 }
                 1 if !callees.is_empty() => {
                     let callee = self.random.pick(&callees);
                     self.out.push(CALL + callee as u8);
-                    list = shapes[callee].parameters[0];
+                    demand = Demand::Only(shapes[callee].parameters[0]);
                 }
-                _ => {
-                    self.out.push(if list { TAIL } else { NULL });
-                    list = true;
-                }
+                _ => demand = self.node_of_list(demand, &[NULL]),
             }
         }
-        list
+        demand
+    }
+
+    /// A leaf of a kind that is not demanded.
+    pub fn wrong_leaf(&mut self, demand: Demand) {
+        let kinds = kinds(contacts(self.shapes)).iter().copied();
+        let wrong: Vec<Kind> = kinds.filter(|kind| !demand.allows(*kind)).collect();
+        let kind = self.random.pick(&wrong);
+        self.leaf(Demand::Only(kind));
     }
 
     /// An expression exactly so deep, by one long branch through every sort of node.
-    pub fn chain(&mut self, list: bool, depth: usize) {
+    pub fn chain(&mut self, demand: Demand, depth: usize) {
         if depth == 1 {
-            return self.leaf(list);
+            return self.leaf(demand);
         }
         match self.random.below(4) {
-            0 => self.chain_if(list, depth),
-            1 => self.chain_call(list, depth),
+            0 => self.chain_if(demand, depth),
+            1 => self.chain_call(demand, depth),
             _ => {
-                self.out.push(match list {
-                    true => TAIL,
-                    false => self.random.pick(&[HEAD, NULL]),
-                });
-                self.chain(true, depth - 1);
+                let below = self.node_of_list(demand, &[HEAD, NULL]);
+                self.chain(below, depth - 1);
             }
         }
     }
 
     /// An if whose condition or one of whose branches goes on.
-    fn chain_if(&mut self, list: bool, depth: usize) {
+    fn chain_if(&mut self, demand: Demand, depth: usize) {
         let long = self.random.below(3);
         self.out.push(IF);
-        for place in 0..3 {
-            let kind = list && place > 0;
+        for (place, demand) in [BOOL, demand, demand].into_iter().enumerate() {
             match place == long {
-                true => self.chain(kind, depth - 1),
-                false => self.leaf(kind),
+                true => self.chain(demand, depth - 1),
+                false => self.leaf(demand),
             }
         }
     }
 
     /// A call one of whose arguments goes on.
-    fn chain_call(&mut self, list: bool, depth: usize) {
-        let callees = self.users(list);
+    fn chain_call(&mut self, demand: Demand, depth: usize) {
+        let callees = self.users(demand);
         if callees.is_empty() {
-            return self.chain_if(list, depth);
+            return self.chain_if(demand, depth);
         }
         let callee = self.random.pick(&callees);
         let shapes = self.shapes;
@@ -281,8 +344,8 @@ impl Writer<'_> {
         self.out.push(CALL + callee as u8);
         for (place, kind) in kinds.iter().enumerate() {
             match place == long {
-                true => self.chain(*kind, depth - 1),
-                false => self.leaf(*kind),
+                true => self.chain(Demand::Only(*kind), depth - 1),
+                false => self.leaf(Demand::Only(*kind)),
             }
         }
     }

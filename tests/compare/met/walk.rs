@@ -1,20 +1,21 @@
 //! The walk: an accepted program as trees, taken on every configuration, with calls looked up in the cells that
 //! evaluating left.
 
-use super::super::generate::programs::MOST_BYTES;
-use super::super::language::{Outcome, Place, Sort};
+use super::super::generate::programs::{self, MOST_BYTES};
+use super::super::language::{kind_name, kind_number, kinds, Outcome, Place, Sort, GUARD, RAM};
+use super::super::oracle::program::{Contact, Contacts, Kind, Value};
+use super::super::oracle::trace::Samples;
 
-/// The kinds of a function: the number of its parameters, a bit for each that is a list, and whether its result is.
+/// The kinds of a function: those of its parameters, of which the absent are Bools, and of its result.
 #[derive(Clone, Copy)]
 pub struct Kinds {
-    count: u8,
-    lists: u8,
-    result: bool,
+    count: usize,
+    parameters: [Kind; 4],
+    result: Kind,
 }
 
 /// A function of an accepted program.
 pub struct Function {
-    parameters: Vec<bool>,
     pub kinds: Kinds,
     /// Its first cell, and the cell after its last.
     start: usize,
@@ -43,54 +44,71 @@ enum Stop {
     TailOfEmpty,
 }
 
-/// A program on a trace with the cells that evaluating left.
+/// A program on samples with the cells that evaluating left.
 pub struct Walk<'a> {
+    contacts: Contacts,
     program: &'a [u8],
-    samples: &'a [bool],
+    samples: &'a Samples,
     cells: &'a [u16],
     pub functions: Vec<Function>,
     /// The nodes of the function that was taken last.
     pub nodes: Vec<Node>,
-    /// The values of the parameters.
-    values: [u16; 4],
+    /// The function that is taken, and the values of its parameters.
+    own: usize,
+    values: [Value; 4],
     /// The byte after the function that was taken last.
     read: usize,
 }
 
 impl Kinds {
     /// How many kinds of functions there are.
-    pub const COUNT: usize = 62;
+    pub const COUNT: usize = 363;
 
-    pub fn all() -> Vec<Kinds> {
-        let mut all = Vec::new();
-        for count in 0..=4 {
-            for lists in 0..1 << count {
-                for result in [false, true] {
-                    all.push(Kinds {
-                        count,
-                        lists,
-                        result,
-                    });
-                }
-            }
+    /// All in programs of a sort.
+    pub fn all(contacts: Contacts) -> Vec<Kinds> {
+        let one = |kind: &Kind| Kinds {
+            count: 0,
+            parameters: [Kind::Bool; 4],
+            result: *kind,
+        };
+        let mut all: Vec<Kinds> = kinds(contacts).iter().map(one).collect();
+        let mut longest = all.clone();
+        for count in 0..4 {
+            let longer = |it: &Kinds, kind: &Kind| {
+                let mut longer = Kinds {
+                    count: count + 1,
+                    ..*it
+                };
+                longer.parameters[count] = *kind;
+                longer
+            };
+            let of_all = |it| kinds(contacts).iter().map(move |kind| longer(it, kind));
+            longest = longest.iter().flat_map(of_all).collect();
+            all.extend(&longest);
         }
         all
     }
 
+    fn parameters(&self) -> &[Kind] {
+        &self.parameters[..self.count]
+    }
+
     pub fn number(self) -> usize {
-        2 * ((1 << self.count) - 1 + usize::from(self.lists)) + usize::from(self.result)
+        let digit = |number: usize, kind: &Kind| 3 * number + kind_number(*kind);
+        let shorter = [0, 1, 4, 13, 40][self.count];
+        3 * (shorter + self.parameters().iter().fold(0, digit)) + kind_number(self.result)
     }
 
     pub fn name(self) -> String {
-        let Kinds { count, lists, .. } = self;
-        let result = if self.result { "list" } else { "Bool" };
-        format!("{count} parameters, lists {lists:04b}, giving a {result}")
+        let names: Vec<&str> = self.parameters().iter().copied().map(kind_name).collect();
+        let result = kind_name(self.result);
+        format!("parameters ({}), giving a {result}", names.join(", "))
     }
 
-    /// What may come of a call. Without a list at hand there is only the empty one.
+    /// What may come of a call. Without a list of that contact at hand there is only the empty one.
     pub fn outcomes(self) -> &'static [Outcome] {
-        match self.result && self.lists == 0 {
-            true => Sort::Call(0).outcomes(true),
+        match self.result != Kind::Bool && !self.parameters().contains(&self.result) {
+            true => Sort::Call(0, self.result).outcomes(),
             false => &Outcome::ALL,
         }
     }
@@ -109,14 +127,16 @@ impl Node {
 }
 
 impl<'a> Walk<'a> {
-    pub fn new(program: &'a [u8], samples: &'a [bool], cells: &'a [u16]) -> Self {
+    pub fn new(program: &'a [u8], samples: &'a Samples, cells: &'a [u16]) -> Self {
         let mut walk = Walk {
+            contacts: programs::contacts(program),
             program,
             samples,
             cells,
             functions: Vec::new(),
             nodes: Vec::new(),
-            values: [0; 4],
+            own: 0,
+            values: [Value::Bool(false); 4],
             read: 0,
         };
         walk.headers();
@@ -126,33 +146,40 @@ impl<'a> Walk<'a> {
     /// Finds the functions, their first cells and their bodies.
     fn headers(&mut self) {
         let (mut at, mut start) = (1, 0);
-        for _ in 0..self.program[0] {
-            let [count, kinds, low, high] = self.program[at..at + 4] else {
-                panic!("the program is accepted");
+        for _ in 0..self.program[0] & 0x7F {
+            let header = &self.program[at..];
+            let (count, lists, guards, length) = match self.contacts {
+                Contacts::One => (header[0], header[1], 0, [header[2], header[3]]),
+                Contacts::Two => (header[0], header[1], header[2], [header[3], header[4]]),
             };
-            let parameters: Vec<bool> = (0..count).map(|bit| kinds >> bit & 1 == 1).collect();
-            let radixes = parameters.iter().map(|list| self.radix(*list));
+            let kind = |bit: usize| match (lists >> bit & 1, guards >> bit & 1) {
+                (0, _) => Kind::Bool,
+                (_, 0) => RAM,
+                _ => GUARD,
+            };
+            let kinds = Kinds {
+                count: count.into(),
+                parameters: [0, 1, 2, 3].map(kind),
+                result: kind(4),
+            };
+            let radixes = kinds.parameters().iter().map(|kind| self.radix(*kind));
             let cells: usize = radixes.product();
-            let end = at + 4 + usize::from(u16::from_le_bytes([low, high]));
+            let body = at + self.contacts.header();
+            let end = body + usize::from(u16::from_le_bytes(length));
             self.functions.push(Function {
-                parameters,
-                kinds: Kinds {
-                    count,
-                    lists: kinds & 0x0F,
-                    result: kinds >> 4 == 1,
-                },
+                kinds,
                 start,
                 end: start + cells,
-                body: (at + 4, end),
+                body: (body, end),
             });
             (at, start) = (end, start + cells);
         }
     }
 
-    fn radix(&self, list: bool) -> usize {
-        match list {
-            true => self.samples.len() + 1,
-            false => 2,
+    fn radix(&self, kind: Kind) -> usize {
+        match kind {
+            Kind::List(contact) => self.samples.of(contact).len() + 1,
+            Kind::Bool => 2,
         }
     }
 
@@ -165,19 +192,19 @@ impl<'a> Walk<'a> {
             body,
             ..
         } = self.functions[own];
-        let list = kinds.result;
         let mut at = body.0;
-        self.node(&mut at, Place::Body(list), None, 1);
+        self.own = own;
+        self.node(&mut at, Place::Body(kinds.result), None, 1);
         assert_eq!(at, body.1);
         self.read = at;
         for cell in start..end {
-            self.set_values(own, cell - start);
+            self.set_values(cell - start);
             let held = match self.take(0) {
                 Err(Stop::Undecided) => 0,
                 Err(Stop::HeadOfEmpty) => 3,
                 Err(Stop::TailOfEmpty) => 4,
-                Ok(length) if list => 5 + length,
-                Ok(value) => 1 + value,
+                Ok(value) if value.kind() == kinds.result => value.cell(),
+                Ok(value) => return Err(format!("cell {cell}: its body comes to {value:?}\n")),
             };
             let left = self.cells[cell];
             if held != left {
@@ -197,10 +224,11 @@ impl<'a> Walk<'a> {
     }
 
     /// The parameters' values in a configuration, the last parameter the least significant.
-    fn set_values(&mut self, own: usize, mut place: usize) {
-        for which in (0..self.functions[own].parameters.len()).rev() {
-            let radix = self.radix(self.functions[own].parameters[which]);
-            self.values[which] = (place % radix) as u16;
+    fn set_values(&mut self, mut place: usize) {
+        let kinds = self.functions[self.own].kinds;
+        for (which, kind) in kinds.parameters().iter().enumerate().rev() {
+            let radix = self.radix(*kind);
+            self.values[which] = kind.value((place % radix) as u16);
             place /= radix;
         }
     }
@@ -219,23 +247,23 @@ impl<'a> Walk<'a> {
             seen: 0,
         });
         *at += 1;
-        let list = place.list();
+        let demand = place.demand(self.contacts);
         match byte {
             0x20 => self.operands(at, number, &[Place::Head]),
-            0x21 => self.operands(at, number, &[Place::Tail]),
+            0x21 => self.operands(at, number, &[Place::Tail(demand)]),
             0x22 => self.operands(at, number, &[Place::Null]),
             0x23 => {
-                let places = [Place::Condition(list), Place::Then(list), Place::Else(list)];
+                let condition = Place::Condition(demand);
+                let places = [condition, Place::Then(demand), Place::Else(demand)];
                 self.operands(at, number, &places);
             }
             0x80.. => {
-                let kinds = &self.functions[usize::from(byte - 0x80)].parameters;
-                let count = kinds.len();
+                let kinds = self.functions[usize::from(byte - 0x80)].kinds;
                 let mut places = [Place::Head; 4];
-                for (which, list) in kinds.iter().enumerate() {
-                    places[which] = Place::Argument(count, which, *list);
+                for (which, kind) in kinds.parameters().iter().enumerate() {
+                    places[which] = Place::Argument(kinds.count, which, *kind);
                 }
-                self.operands(at, number, &places[..count]);
+                self.operands(at, number, &places[..kinds.count]);
             }
             _ => {}
         }
@@ -250,61 +278,81 @@ impl<'a> Walk<'a> {
         }
     }
 
-    /// The sort of the node that begins at a byte.
+    /// The sort of the node that begins at a byte of the function that is taken.
     fn sort(&self, at: usize) -> Sort {
-        let parameter = |at: usize| matches!(self.program[at], 0x10..=0x13);
+        let kind = |byte: u8| self.functions[self.own].kinds.parameters[usize::from(byte - 0x10)];
+        let list = |at: usize| match self.program[at] {
+            byte @ 0x10..=0x13 => match kind(byte) {
+                Kind::List(contact) => Some(contact),
+                Kind::Bool => None,
+            },
+            _ => None,
+        };
         match self.program[at] {
             0x00 => Sort::False,
             0x01 => Sort::True,
-            0x02 => Sort::Empty,
-            byte @ 0x10..=0x13 => Sort::Parameter(usize::from(byte - 0x10)),
-            0x20 if parameter(at + 1) => Sort::HeadOfParameter,
-            0x20 => Sort::Head,
-            0x21 if parameter(at + 1) => Sort::TailOfParameter,
-            0x21 => Sort::Tail,
-            0x22 if parameter(at + 1) => Sort::NullOfParameter,
-            0x22 => Sort::Null,
+            0x02 => Sort::Empty(Contact::Ram),
+            0x03 => Sort::Empty(Contact::Guard),
+            byte @ 0x10..=0x13 => Sort::Parameter(usize::from(byte - 0x10), kind(byte)),
+            0x20 => list(at + 1).map_or(Sort::Head, Sort::HeadOfParameter),
+            0x21 => list(at + 1).map_or(Sort::Tail, Sort::TailOfParameter),
+            0x22 => list(at + 1).map_or(Sort::Null, Sort::NullOfParameter),
             0x23 => match self.program[at + 1] {
                 0x10..=0x13 => Sort::IfParameter,
-                0x20 if parameter(at + 2) => Sort::IfHeadOfParameter,
-                0x22 if parameter(at + 2) => Sort::IfNullOfParameter,
+                0x20 => list(at + 2).map_or(Sort::If, Sort::IfHeadOfParameter),
+                0x22 => list(at + 2).map_or(Sort::If, Sort::IfNullOfParameter),
                 _ => Sort::If,
             },
-            byte => Sort::Call(self.functions[usize::from(byte - 0x80)].parameters.len()),
+            byte => {
+                let kinds = self.functions[usize::from(byte - 0x80)].kinds;
+                Sort::Call(kinds.count, kinds.result)
+            }
         }
     }
 
     /// Takes a node on the values set, and keeps what comes of it.
-    fn take(&mut self, number: usize) -> Result<u16, Stop> {
+    fn take(&mut self, number: usize) -> Result<Value, Stop> {
         let taken = self.outcome(number);
         let outcome = match taken {
             Err(Stop::Undecided) => Outcome::Undecided,
             Err(Stop::HeadOfEmpty) => Outcome::HeadOfEmpty,
             Err(Stop::TailOfEmpty) => Outcome::TailOfEmpty,
-            Ok(0) => Outcome::Least,
+            Ok(value) if value.digit() == 0 => Outcome::Least,
             Ok(_) => Outcome::More,
         };
         self.nodes[number].seen |= 1 << outcome as u8;
         taken
     }
 
-    fn outcome(&mut self, number: usize) -> Result<u16, Stop> {
+    /// Takes an operand that is a list: its contact and its length.
+    fn list(&mut self, number: usize) -> Result<(Contact, u16), Stop> {
+        match self.take(number)? {
+            Value::Suffix(contact, length) => Ok((contact, length)),
+            Value::Bool(_) => unreachable!("a list is demanded"),
+        }
+    }
+
+    fn outcome(&mut self, number: usize) -> Result<Value, Stop> {
         let Node { byte, operands, .. } = self.nodes[number];
         match byte {
-            0x00 | 0x01 => Ok(byte.into()),
-            0x02 => Ok(0),
+            0x00 | 0x01 => Ok(Value::Bool(byte == 1)),
+            0x02 => Ok(Value::Suffix(Contact::Ram, 0)),
+            0x03 => Ok(Value::Suffix(Contact::Guard, 0)),
             0x10..=0x13 => Ok(self.values[usize::from(byte - 0x10)]),
-            0x20 => match self.take(operands[0])? {
-                0 => Err(Stop::HeadOfEmpty),
-                length => Ok(self.samples[self.samples.len() - usize::from(length)].into()),
+            0x20 => match self.list(operands[0])? {
+                (_, 0) => Err(Stop::HeadOfEmpty),
+                (contact, length) => {
+                    let samples = self.samples.of(contact);
+                    Ok(Value::Bool(samples[samples.len() - usize::from(length)]))
+                }
             },
-            0x21 => match self.take(operands[0])? {
-                0 => Err(Stop::TailOfEmpty),
-                length => Ok(length - 1),
+            0x21 => match self.list(operands[0])? {
+                (_, 0) => Err(Stop::TailOfEmpty),
+                (contact, length) => Ok(Value::Suffix(contact, length - 1)),
             },
-            0x22 => Ok((self.take(operands[0])? == 0).into()),
+            0x22 => Ok(Value::Bool(self.list(operands[0])?.1 == 0)),
             0x23 => match self.take(operands[0])? {
-                0 => self.take(operands[2]),
+                Value::Bool(false) => self.take(operands[2]),
                 _ => self.take(operands[1]),
             },
             _ => self.call(usize::from(byte - 0x80), operands),
@@ -312,21 +360,19 @@ impl<'a> Walk<'a> {
     }
 
     /// Takes the arguments and looks the call up.
-    fn call(&mut self, callee: usize, operands: [usize; 4]) -> Result<u16, Stop> {
+    fn call(&mut self, callee: usize, operands: [usize; 4]) -> Result<Value, Stop> {
+        let Function { kinds, start, .. } = self.functions[callee];
         let mut place = 0;
-        for (which, operand) in operands.into_iter().enumerate() {
-            let Some(list) = self.functions[callee].parameters.get(which) else {
-                break;
-            };
-            let radix = self.radix(*list);
-            place = place * radix + usize::from(self.take(operand)?);
+        for (kind, operand) in kinds.parameters().iter().zip(operands) {
+            let value = self.take(operand)?;
+            assert_eq!(value.kind(), *kind);
+            place = place * self.radix(*kind) + usize::from(value.digit());
         }
-        match self.cells[self.functions[callee].start + place] {
+        match self.cells[start + place] {
             0 => Err(Stop::Undecided),
             3 => Err(Stop::HeadOfEmpty),
             4 => Err(Stop::TailOfEmpty),
-            cell if self.functions[callee].kinds.result => Ok(cell - 5),
-            cell => Ok(cell - 1),
+            cell => Ok(kinds.result.value(cell - kinds.result.value(0).cell())),
         }
     }
 }

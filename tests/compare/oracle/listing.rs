@@ -27,7 +27,7 @@ pub fn text(archive: &[u8]) -> String {
     text + &format!("end {listed}\n")
 }
 
-/// The line of one record.
+/// The line of one record; a record of two contacts has a count of each, the ram's first.
 fn line(ordinal: usize, rest: &[u8], parts: &record::Parts) -> String {
     let length = rest.len() - parts.before();
     let verdict = VERDICTS[usize::from(parts.verdict)];
@@ -36,5 +36,7 @@ fn line(ordinal: usize, rest: &[u8], parts: &record::Parts) -> String {
         Ok((false, _)) => "differs".to_string(),
         Err(number) => number.to_string(),
     };
-    format!("{ordinal} {length} {} {verdict} {checked}\n", parts.n)
+    let counts: Vec<String> = parts.traces.each().map(|(_, n)| n.to_string()).collect();
+    let counts = counts.join(" ");
+    format!("{ordinal} {length} {counts} {verdict} {checked}\n")
 }

@@ -1,17 +1,47 @@
 //! The program check: the headers, then each body by a recursive parser.
 
+/// A contact whose samples a trace has.
+#[derive(Clone, Copy, Debug, PartialEq, Eq)]
+pub enum Contact {
+    Ram,
+    Guard,
+}
+
+/// The sort of a program: over the ram contact alone, or over both.
+#[derive(Clone, Copy, Debug, PartialEq, Eq, PartialOrd, Ord)]
+pub enum Contacts {
+    One,
+    Two,
+}
+
 /// The kind of a value.
 #[derive(Clone, Copy, Debug, PartialEq, Eq)]
 pub enum Kind {
     Bool,
-    List,
+    /// A suffix of a contact's trace.
+    List(Contact),
+}
+
+/// What a place demands.
+#[derive(Clone, Copy, Debug, PartialEq, Eq)]
+pub enum Demand {
+    Only(Kind),
+    /// A list of either contact.
+    Either,
+}
+
+/// A value: a list is known by its trace and its length.
+#[derive(Clone, Copy, Debug, PartialEq, Eq)]
+pub enum Value {
+    Bool(bool),
+    Suffix(Contact, u16),
 }
 
 /// One step of a body, in the order in which the steps are taken.
 #[derive(Clone, Copy, Debug)]
 pub enum Step {
-    /// Put a constant on the stack: a Bool as 0 or 1, a list as its length.
-    Constant(u16),
+    /// Put a constant on the stack.
+    Constant(Value),
     /// Put a parameter on the stack.
     Parameter(usize),
     Head,
@@ -43,33 +73,122 @@ struct Shape<'a> {
 /// What a byte of a body stands for.
 enum Node {
     Leaf(Step, Kind),
-    Unary(Step, Kind),
+    /// hd and null.
+    OfList(Step),
+    Tail,
     If,
     Call(usize),
 }
 
-/// Checks a program: its functions, or the first refusal number.
+impl Contacts {
+    pub const ALL: [Contacts; 2] = [Contacts::One, Contacts::Two];
+
+    /// The contacts of a program of this sort.
+    pub fn contacts(self) -> &'static [Contact] {
+        match self {
+            Contacts::One => &[Contact::Ram],
+            Contacts::Two => &[Contact::Ram, Contact::Guard],
+        }
+    }
+
+    /// The bytes of a header.
+    pub fn header(self) -> usize {
+        match self {
+            Contacts::One => 4,
+            Contacts::Two => 5,
+        }
+    }
+
+    /// Main's parameters: a list of each contact.
+    pub fn main(self) -> Vec<Kind> {
+        self.contacts().iter().copied().map(Kind::List).collect()
+    }
+}
+
+impl Kind {
+    /// The value with a number among the values of a kind.
+    pub fn value(self, digit: u16) -> Value {
+        match self {
+            Kind::Bool => Value::Bool(digit == 1),
+            Kind::List(contact) => Value::Suffix(contact, digit),
+        }
+    }
+}
+
+impl Demand {
+    pub fn allows(self, kind: Kind) -> bool {
+        match self {
+            Demand::Only(demanded) => kind == demanded,
+            Demand::Either => kind != Kind::Bool,
+        }
+    }
+}
+
+impl Value {
+    pub fn kind(self) -> Kind {
+        match self {
+            Value::Bool(_) => Kind::Bool,
+            Value::Suffix(contact, _) => Kind::List(contact),
+        }
+    }
+
+    /// Its number among the values of its kind.
+    pub fn digit(self) -> u16 {
+        match self {
+            Value::Bool(bit) => bit.into(),
+            Value::Suffix(_, length) => length,
+        }
+    }
+
+    /// What a cell holds for it.
+    pub fn cell(self) -> u16 {
+        match self {
+            Value::Bool(bit) => 1 + u16::from(bit),
+            Value::Suffix(_, length) => 5 + length,
+        }
+    }
+}
+
+/// The sort that a count byte marks, and the number of functions.
+pub fn counted(byte: u8) -> Option<(Contacts, u8)> {
+    match byte {
+        1..=32 => Some((Contacts::One, byte)),
+        0x81..=0xA0 => Some((Contacts::Two, byte - 0x80)),
+        _ => None,
+    }
+}
+
+/// Checks a program of either sort: its functions, or the first refusal number.
 pub fn check(program: &[u8]) -> Result<Vec<Function>, u32> {
+    check_sorts(&Contacts::ALL, program)
+}
+
+/// Checks a program that must be of a sort.
+pub fn check_for(contacts: Contacts, program: &[u8]) -> Result<Vec<Function>, u32> {
+    check_sorts(&[contacts], program)
+}
+
+fn check_sorts(sorts: &[Contacts], program: &[u8]) -> Result<Vec<Function>, u32> {
     if program.is_empty() || program.len() > 4_096 {
         return Err(5);
     }
-    let count = program[0];
-    if count == 0 || count > 32 {
-        return Err(6);
-    }
-    let shapes = headers(&program[1..], count)?;
-    if !is_main(&shapes[0]) {
+    let counted = counted(program[0]).filter(|(contacts, _)| sorts.contains(contacts));
+    let (contacts, count) = counted.ok_or(6u32)?;
+    let shapes = headers(contacts, &program[1..], count)?;
+    if shapes[0].parameters != contacts.main() || shapes[0].result != Kind::Bool {
         return Err(11);
     }
-    (0..shapes.len()).map(|own| body(&shapes, own)).collect()
+    (0..shapes.len())
+        .map(|own| body(contacts, &shapes, own))
+        .collect()
 }
 
 /// Cuts the bytes after the count into functions.
-fn headers(mut rest: &[u8], count: u8) -> Result<Vec<Shape<'_>>, u32> {
+fn headers(contacts: Contacts, mut rest: &[u8], count: u8) -> Result<Vec<Shape<'_>>, u32> {
     let mut shapes = Vec::new();
     for _ in 0..count {
-        let shape = header(rest)?;
-        rest = &rest[4 + shape.body.len()..];
+        let shape = header(contacts, rest)?;
+        rest = &rest[contacts.header() + shape.body.len()..];
         shapes.push(shape);
     }
     if rest.is_empty() {
@@ -79,53 +198,50 @@ fn headers(mut rest: &[u8], count: u8) -> Result<Vec<Shape<'_>>, u32> {
     }
 }
 
-/// Reads one header and finds its body.
-fn header(rest: &[u8]) -> Result<Shape<'_>, u32> {
-    if rest.len() < 4 {
+/// Reads one header and finds its body. The bits of the guard stand between the kinds and the length.
+fn header(contacts: Contacts, rest: &[u8]) -> Result<Shape<'_>, u32> {
+    let size = contacts.header();
+    if rest.len() < size {
         return Err(7);
     }
-    let (count, kinds) = (rest[0], rest[1]);
+    let (count, lists) = (rest[0], rest[1]);
+    let guard = match contacts {
+        Contacts::One => 0,
+        Contacts::Two => rest[2],
+    };
     if count > 4 {
         return Err(8);
     }
     let allowed = 0x10 | ((1u8 << count) - 1);
-    if kinds & !allowed != 0 {
+    if lists & !allowed != 0 || guard & !lists != 0 {
         return Err(8);
     }
-    let length = usize::from(rest[2]) + 256 * usize::from(rest[3]);
-    if length == 0 || length > 1_024 || length > rest.len() - 4 {
+    let length = usize::from(rest[size - 2]) + 256 * usize::from(rest[size - 1]);
+    if length == 0 || length > 1_024 || length > rest.len() - size {
         return Err(9);
     }
+    let kind = |bit: u8| match (lists >> bit & 1, guard >> bit & 1) {
+        (0, _) => Kind::Bool,
+        (_, 0) => Kind::List(Contact::Ram),
+        _ => Kind::List(Contact::Guard),
+    };
     Ok(Shape {
-        parameters: (0..count).map(|bit| kind_bit(kinds, bit)).collect(),
-        result: kind_bit(kinds, 4),
-        body: &rest[4..4 + length],
+        parameters: (0..count).map(kind).collect(),
+        result: kind(4),
+        body: &rest[size..size + length],
     })
 }
 
-/// The kind that a bit of the kinds byte tells.
-fn kind_bit(kinds: u8, bit: u8) -> Kind {
-    if kinds >> bit & 1 == 1 {
-        Kind::List
-    } else {
-        Kind::Bool
-    }
-}
-
-/// Whether a header is main's: one list parameter, Bool result.
-fn is_main(shape: &Shape) -> bool {
-    shape.parameters == [Kind::List] && shape.result == Kind::Bool
-}
-
 /// Parses one function's body.
-fn body(shapes: &[Shape], own: usize) -> Result<Function, u32> {
+fn body(contacts: Contacts, shapes: &[Shape], own: usize) -> Result<Function, u32> {
     let mut parser = Parser {
+        contacts,
         shapes,
         own: &shapes[own],
         at: 0,
         steps: Vec::new(),
     };
-    parser.expression(shapes[own].result, 1)?;
+    parser.expression(Demand::Only(shapes[own].result), 1)?;
     if parser.at < shapes[own].body.len() {
         return Err(17);
     }
@@ -138,6 +254,7 @@ fn body(shapes: &[Shape], own: usize) -> Result<Function, u32> {
 
 /// Reads a body from front to back and writes its steps.
 struct Parser<'a> {
+    contacts: Contacts,
     shapes: &'a [Shape<'a>],
     own: &'a Shape<'a>,
     at: usize,
@@ -146,13 +263,13 @@ struct Parser<'a> {
 
 impl Parser<'_> {
     /// Parses the expression that begins here, its first node at the given depth.
-    fn expression(&mut self, demand: Kind, depth: usize) -> Result<(), u32> {
+    fn expression(&mut self, demand: Demand, depth: usize) -> Result<(), u32> {
         let byte = *self.own.body.get(self.at).ok_or(12u32)?;
         if depth > 64 {
             return Err(13);
         }
         let node = self.node(byte)?;
-        if self.kind(&node).is_some_and(|kind| kind != demand) {
+        if !self.fits(&node, demand) {
             return Err(16);
         }
         self.at += 1;
@@ -162,13 +279,15 @@ impl Parser<'_> {
     /// What a byte means in this body.
     fn node(&self, byte: u8) -> Result<Node, u32> {
         let place = usize::from(byte & 0x1F);
+        let leaf = |kind: Kind, digit: u16| Node::Leaf(Step::Constant(kind.value(digit)), kind);
         match byte {
-            0x00 | 0x01 => Ok(Node::Leaf(Step::Constant(byte.into()), Kind::Bool)),
-            0x02 => Ok(Node::Leaf(Step::Constant(0), Kind::List)),
+            0x00 | 0x01 => Ok(leaf(Kind::Bool, byte.into())),
+            0x02 => Ok(leaf(Kind::List(Contact::Ram), 0)),
+            0x03 if self.contacts == Contacts::Two => Ok(leaf(Kind::List(Contact::Guard), 0)),
             0x10..=0x13 => self.parameter(place - 0x10),
-            0x20 => Ok(Node::Unary(Step::Head, Kind::Bool)),
-            0x21 => Ok(Node::Unary(Step::Tail, Kind::List)),
-            0x22 => Ok(Node::Unary(Step::Null, Kind::Bool)),
+            0x20 => Ok(Node::OfList(Step::Head)),
+            0x21 => Ok(Node::Tail),
+            0x22 => Ok(Node::OfList(Step::Null)),
             0x23 => Ok(Node::If),
             0x24 => Err(14),
             0x80..=0x9F if place < self.shapes.len() => Ok(Node::Call(place)),
@@ -182,28 +301,35 @@ impl Parser<'_> {
         Ok(Node::Leaf(Step::Parameter(place), *kind))
     }
 
-    /// The kind a node gives; an if has none of its own.
-    fn kind(&self, node: &Node) -> Option<Kind> {
+    /// Whether a place may have a node. An if may stand anywhere, and a tl wherever a list may.
+    fn fits(&self, node: &Node, demand: Demand) -> bool {
         match node {
-            Node::Leaf(_, kind) | Node::Unary(_, kind) => Some(*kind),
-            Node::If => None,
-            Node::Call(callee) => Some(self.shapes[*callee].result),
+            Node::Leaf(_, kind) => demand.allows(*kind),
+            Node::OfList(_) => demand.allows(Kind::Bool),
+            Node::Tail => !demand.allows(Kind::Bool),
+            Node::If => true,
+            Node::Call(callee) => demand.allows(self.shapes[*callee].result),
         }
     }
 
-    /// Parses what belongs to a node, and writes the node's steps.
-    fn operands(&mut self, node: Node, demand: Kind, depth: usize) -> Result<(), u32> {
+    /// Parses what belongs to a node, and writes the node's steps. hd and null take a list of either contact, tl hands
+    /// its demand on.
+    fn operands(&mut self, node: Node, demand: Demand, depth: usize) -> Result<(), u32> {
         match node {
             Node::Leaf(step, _) => self.steps.push(step),
-            Node::Unary(step, _) => {
-                self.expression(Kind::List, depth)?;
+            Node::OfList(step) => {
+                self.expression(Demand::Either, depth)?;
                 self.steps.push(step);
+            }
+            Node::Tail => {
+                self.expression(demand, depth)?;
+                self.steps.push(Step::Tail);
             }
             Node::If => self.branches(demand, depth)?,
             Node::Call(callee) => {
                 let shapes = self.shapes;
                 for kind in &shapes[callee].parameters {
-                    self.expression(*kind, depth)?;
+                    self.expression(Demand::Only(*kind), depth)?;
                 }
                 self.steps.push(Step::Call(callee));
             }
@@ -212,8 +338,8 @@ impl Parser<'_> {
     }
 
     /// Parses condition and branches of an if, and joins them by jumps.
-    fn branches(&mut self, demand: Kind, depth: usize) -> Result<(), u32> {
-        self.expression(Kind::Bool, depth)?;
+    fn branches(&mut self, demand: Demand, depth: usize) -> Result<(), u32> {
+        self.expression(Demand::Only(Kind::Bool), depth)?;
         let unless = self.steps.len();
         self.steps.push(Step::Unless(0));
         self.expression(demand, depth)?;

@@ -1,10 +1,13 @@
 //! Records: writing, reading, checking.
 
+use super::program::Contacts;
 use super::search::Evaluation;
+use super::trace::{PerContact, Trace, Traces};
 use super::{fill, program, trace};
 
-const TRAILER: usize = 8;
 const MARK: u8 = 0x52;
+/// The bytes of the shortest trailer.
+const SHORTEST_TRAILER: usize = 8;
 /// Verdict byte and pass count together, which stand before the trailer.
 const VERDICT_AND_PASSES: usize = 5;
 
@@ -13,73 +16,96 @@ const VERDICT_AND_PASSES: usize = 5;
 pub struct Format {
     /// The trailer's format byte.
     number: u8,
-    /// The bytes of the label, which stands after the trace.
+    /// The bytes of the label, which stands after the traces.
     label: usize,
+    /// The sort of its programs: a trace for each contact, and a count of its samples in the trailer.
+    contacts: Contacts,
 }
 
 const LABELLED: Format = Format {
     number: 1,
     label: 8,
+    contacts: Contacts::One,
 };
 const UNLABELLED: Format = Format {
     number: 2,
     label: 0,
+    contacts: Contacts::One,
+};
+const GUARDED: Format = Format {
+    number: 3,
+    label: 0,
+    contacts: Contacts::Two,
 };
 
-/// The formats that a release without request 02 reads.
-pub const OLD_RELEASE: &[Format] = &[LABELLED];
+/// The formats that older releases read: without request 02, and without request 05.
+pub const OLDER_RELEASES: [&[Format]; 2] = [&[LABELLED], &[LABELLED, UNLABELLED]];
 /// The formats that are read.
-const FORMATS: &[Format] = &[LABELLED, UNLABELLED];
+const FORMATS: &[Format] = &[LABELLED, UNLABELLED, GUARDED];
 
 impl Format {
-    /// The bytes between the trace and the trailer.
-    fn after_trace(self) -> usize {
+    /// The bytes between the traces and the trailer.
+    fn after_traces(self) -> usize {
         self.label + VERDICT_AND_PASSES
+    }
+
+    /// The bytes of the trailer: two distances, the counts, format and mark.
+    fn trailer(self) -> usize {
+        6 + 2 * self.contacts.contacts().len()
     }
 }
 
-/// What stands in a record. The label decides the format.
+/// What stands in a record. Label and traces decide the format.
+#[derive(Clone)]
 pub struct Content {
     pub program: Vec<u8>,
-    pub trace: Vec<u8>,
-    pub n: u16,
+    pub traces: Traces,
     pub label: Option<[u8; 8]>,
     pub verdict: u8,
     pub passes: u32,
 }
 
+/// Where a part stands in the archive's bytes: its start and its length.
+pub type Span = (usize, usize);
+
 /// Where a record's parts stand in the archive's bytes.
 pub struct Parts {
     pub format: u8,
-    pub program: (usize, usize),
-    pub trace: (usize, usize),
-    pub n: u16,
-    pub label: Option<(usize, usize)>,
+    pub program: Span,
+    /// Of each contact the trace, and the number of its samples.
+    pub traces: PerContact<(Span, u16)>,
+    pub label: Option<Span>,
     pub verdict: u8,
     pub passes: u32,
 }
 
-impl Content {
-    fn format(&self) -> Format {
-        match self.label {
-            Some(_) => LABELLED,
-            None => UNLABELLED,
-        }
+/// The format for traces with a label or none.
+fn format(traces: &Traces, label: Option<[u8; 8]>) -> Format {
+    match (traces.contacts(), label) {
+        (Contacts::One, Some(_)) => LABELLED,
+        (Contacts::One, None) => UNLABELLED,
+        (Contacts::Two, None) => GUARDED,
+        (Contacts::Two, Some(_)) => panic!("format 3 has no label"),
     }
+}
 
+impl Content {
     /// The record's bytes, with a trailer that fits them.
     pub fn bytes(&self) -> Vec<u8> {
-        let format = self.format();
-        let second = (self.trace.len() + format.after_trace()) as u16;
+        let format = format(&self.traces, self.label);
+        let traces: usize = self.traces.each().map(|it| it.bytes.len()).sum();
+        let second = (traces + format.after_traces()) as u16;
         let first = second.wrapping_add(self.program.len() as u16);
         let mut bytes = self.program.clone();
-        bytes.extend(&self.trace);
+        bytes.extend(self.traces.each().flat_map(|it| &it.bytes));
         bytes.extend(self.label.iter().flatten());
         bytes.push(self.verdict);
         bytes.extend(self.passes.to_le_bytes());
         bytes.extend(first.to_le_bytes());
         bytes.extend(second.to_le_bytes());
-        bytes.extend(self.n.to_le_bytes());
+        for trace in self.traces.each() {
+            bytes.extend((trace.n as u16).to_le_bytes());
+        }
         bytes.extend([format.number, MARK]);
         bytes
     }
@@ -91,27 +117,46 @@ impl Parts {
         self.program.0
     }
 
+    /// The program, of the bytes that the record was read from.
+    pub fn program_in<'a>(&self, bytes: &'a [u8]) -> &'a [u8] {
+        let (start, length) = self.program;
+        &bytes[start..start + length]
+    }
+
+    /// The traces, of the bytes that the record was read from.
+    pub fn traces_in(&self, bytes: &[u8]) -> Traces {
+        self.traces.map(|((start, length), n)| Trace {
+            bytes: bytes[*start..start + length].to_vec(),
+            n: (*n).into(),
+        })
+    }
+
     /// The label, of the bytes that the record was read from.
     pub fn label_in<'a>(&self, bytes: &'a [u8]) -> Option<&'a [u8]> {
         let (start, length) = self.label?;
         Some(&bytes[start..start + length])
     }
 
-    /// The parts as the C interface numbers them; 'no label' has start and length 0.
-    pub fn numbers(&self) -> [u64; 11] {
+    /// The parts as the C interface numbers them; 'no label' and no guard trace have zeros.
+    pub fn numbers(&self) -> [u64; 14] {
         let label = self.label.unwrap_or((0, 0));
+        let (trace, n) = self.traces.ram;
+        let (guard, m) = self.traces.guard.unwrap_or(((0, 0), 0));
         [
             self.program.0 as u64,
             self.program.1 as u64,
-            self.trace.0 as u64,
-            self.trace.1 as u64,
-            self.n.into(),
+            trace.0 as u64,
+            trace.1 as u64,
+            n.into(),
             label.0 as u64,
             self.verdict.into(),
             self.passes.into(),
             self.before() as u64,
             self.format.into(),
             label.1 as u64,
+            guard.0 as u64,
+            guard.1 as u64,
+            m.into(),
         ]
     }
 }
@@ -134,36 +179,57 @@ pub fn read(bytes: &[u8]) -> Result<Parts, u32> {
 /// Reads the last record of an archive as a release does that knows these formats.
 pub fn read_formats(formats: &[Format], bytes: &[u8]) -> Result<Parts, u32> {
     let parts = layout(formats, bytes)?;
-    let (start, length) = parts.program;
-    program::check(&bytes[start..start + length])?;
+    program::check_for(parts.traces.contacts(), parts.program_in(bytes))?;
     Ok(parts)
+}
+
+/// The format of the trailer that the bytes end in, and the place where that begins.
+fn trailer(formats: &[Format], bytes: &[u8]) -> Result<(Format, usize), u32> {
+    if bytes.len() < SHORTEST_TRAILER {
+        return Err(1);
+    }
+    let [.., number, mark] = *bytes else {
+        return Err(1);
+    };
+    let known = formats.iter().find(|format| format.number == number);
+    let format = known.filter(|_| mark == MARK).ok_or(2u32)?;
+    let start = bytes.len().checked_sub(format.trailer()).ok_or(1u32)?;
+    Ok((*format, start))
 }
 
 /// Reads all but the program itself.
 fn layout(formats: &[Format], bytes: &[u8]) -> Result<Parts, u32> {
-    let trailer = bytes.len().checked_sub(TRAILER).ok_or(1u32)?;
-    let known = formats.iter().find(|it| it.number == bytes[trailer + 6]);
-    let format = known.filter(|_| bytes[trailer + 7] == MARK).ok_or(2u32)?;
-    let after_trace = format.after_trace();
+    let (format, trailer) = trailer(formats, bytes)?;
     let (first, second) = (short(bytes, trailer), short(bytes, trailer + 2));
-    let n = short(bytes, trailer + 4);
-    let lengths = n <= 4_095 && second == trace::bytes_for(n) + after_trace;
+    let counts = PerContact {
+        ram: short(bytes, trailer + 4),
+        guard: match format.contacts {
+            Contacts::One => None,
+            Contacts::Two => Some(short(bytes, trailer + 6)),
+        },
+    };
+    let few = counts.each().all(|n| *n <= 4_095);
+    let traces: usize = counts.each().map(|n| trace::bytes_for(*n)).sum();
+    let lengths = few && second == traces + format.after_traces();
     if !lengths || first <= second || first > trailer {
         return Err(3);
     }
-    let (start, length) = (trailer - second, second - after_trace);
-    if trace::unpack(&bytes[start..start + length], n).is_none() {
-        return Err(23);
-    }
+    let start = trailer - second;
+    let ram = trace::bytes_for(counts.ram);
     let parts = Parts {
         format: format.number,
         program: (trailer - first, first - second),
-        trace: (start, length),
-        n: n as u16,
-        label: (format.label > 0).then_some((trailer - after_trace, format.label)),
+        traces: PerContact {
+            ram: ((start, ram), counts.ram as u16),
+            guard: counts
+                .guard
+                .map(|m| ((start + ram, trace::bytes_for(m)), m as u16)),
+        },
+        label: (format.label > 0).then_some((trailer - format.after_traces(), format.label)),
         verdict: bytes[trailer - 5],
         passes: long(bytes, trailer - 4),
     };
+    trace::lent(&parts.traces_in(bytes))?;
     if parts.verdict > 4 || parts.passes == 0 {
         return Err(4);
     }
@@ -173,38 +239,36 @@ fn layout(formats: &[Format], bytes: &[u8]) -> Result<Parts, u32> {
 /// Checks the last record of an archive: whether it agrees, and what was worked out.
 pub fn check(bytes: &[u8], table: &mut [u16]) -> Result<(bool, Evaluation), u32> {
     let parts = read(bytes)?;
-    let (start, length) = parts.program;
-    let functions = program::check(&bytes[start..start + length])?;
-    let (start, length) = parts.trace;
-    let samples = trace::lent(&bytes[start..start + length], parts.n.into())?;
+    let functions = program::check(parts.program_in(bytes))?;
+    let samples = trace::lent(&parts.traces_in(bytes))?;
     let evaluation = fill(&functions, &samples, table)?;
     let agrees = evaluation.verdict == parts.verdict && evaluation.passes == parts.passes;
     Ok((agrees, evaluation))
 }
 
-/// The length of what writing a record of a program on a trace writes.
-pub fn written_length(program: &[u8], trace: &[u8]) -> usize {
-    program.len() + trace.len() + UNLABELLED.after_trace() + TRAILER
+/// The length of what writing a record of a program on traces writes.
+pub fn written_length(program: &[u8], traces: &Traces) -> usize {
+    let format = format(traces, None);
+    let bytes: usize = traces.each().map(|it| it.bytes.len()).sum();
+    program.len() + bytes + format.after_traces() + format.trailer()
 }
 
 /// Writes a record: its length, and what was worked out.
 pub fn write(
     program: &[u8],
-    bytes: &[u8],
-    n: u64,
+    traces: &Traces,
     table: &mut [u16],
     out: &mut [u8],
 ) -> Result<(usize, Evaluation), u32> {
     let mut scratch = table.to_vec();
-    let evaluation = super::evaluate(program, bytes, n, &mut scratch)?;
-    let length = written_length(program, bytes);
+    let evaluation = super::evaluate(program, traces, &mut scratch)?;
+    let length = written_length(program, traces);
     if out.len() < length {
         return Err(22);
     }
     let content = Content {
         program: program.to_vec(),
-        trace: bytes.to_vec(),
-        n: n as u16,
+        traces: traces.clone(),
         label: None,
         verdict: evaluation.verdict,
         passes: evaluation.passes,

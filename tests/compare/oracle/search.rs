@@ -6,7 +6,8 @@
 //! The passes follow from what was looked up: an outcome is stored in the first pass in which every cell its
 //! derivation looks up is decided, a lower cell in the same pass, any other in an earlier one.
 
-use super::program::{Function, Kind, Step};
+use super::program::{Function, Kind, Step, Value};
+use super::trace::Samples;
 
 /// What evaluating leaves.
 pub struct Evaluation {
@@ -29,7 +30,7 @@ enum Mark {
 
 /// The outcome of a body.
 enum Outcome {
-    Value(u16),
+    Value(Value),
     HeadOfEmpty,
     TailOfEmpty,
 }
@@ -38,7 +39,7 @@ enum Outcome {
 struct Frame {
     cell: usize,
     function: usize,
-    arguments: [u16; 4],
+    arguments: [Value; 4],
     /// The next step of the body.
     at: usize,
     /// Where this frame's part of the value stack begins.
@@ -55,50 +56,55 @@ enum Turn {
     Forever,
 }
 
-/// All that is known of the configurations of one program on one trace.
+/// All that is known of the configurations of one program on its samples.
 struct Search<'a> {
     functions: &'a [Function],
-    samples: &'a [bool],
+    samples: &'a Samples,
     /// The first cell of each function.
     starts: Vec<usize>,
     cells: Vec<u16>,
     marks: Vec<Mark>,
     passes: Vec<u32>,
     frames: Vec<Frame>,
-    values: Vec<u16>,
+    values: Vec<Value>,
 }
 
 /// The number of values of a kind.
-pub(super) fn radix(kind: Kind, n: usize) -> u64 {
+pub(super) fn radix(kind: Kind, samples: &Samples) -> u64 {
     match kind {
         Kind::Bool => 2,
-        Kind::List => n as u64 + 1,
+        Kind::List(contact) => samples.of(contact).len() as u64 + 1,
     }
 }
 
 /// The number of configurations of a function.
-pub(super) fn configurations(function: &Function, n: usize) -> u64 {
+pub(super) fn configurations(function: &Function, samples: &Samples) -> u64 {
     function
         .parameters
         .iter()
-        .map(|kind| radix(*kind, n))
+        .map(|kind| radix(*kind, samples))
         .product()
 }
 
-/// The cells needed on a trace of n samples.
-pub fn cells_needed(functions: &[Function], n: usize) -> u64 {
+/// The cells needed on samples.
+pub fn cells_needed(functions: &[Function], samples: &Samples) -> u64 {
     functions
         .iter()
-        .map(|function| configurations(function, n))
+        .map(|function| configurations(function, samples))
         .sum()
 }
 
+/// Main's cell on the whole traces: the last of main's cells.
+pub fn main_cell(functions: &[Function], samples: &Samples) -> usize {
+    configurations(&functions[0], samples) as usize - 1
+}
+
 /// Works out every configuration.
-pub fn evaluate(functions: &[Function], samples: &[bool]) -> Evaluation {
+pub fn evaluate(functions: &[Function], samples: &Samples) -> Evaluation {
     let mut search = Search::new(functions, samples);
     let mut next = 0;
     for (place, function) in functions.iter().enumerate() {
-        for _ in 0..configurations(function, samples.len()) {
+        for _ in 0..configurations(function, samples) {
             search.settle(next, place);
             next += 1;
         }
@@ -108,12 +114,12 @@ pub fn evaluate(functions: &[Function], samples: &[bool]) -> Evaluation {
 
 impl<'a> Search<'a> {
     /// Nothing known yet.
-    fn new(functions: &'a [Function], samples: &'a [bool]) -> Self {
+    fn new(functions: &'a [Function], samples: &'a Samples) -> Self {
         let mut starts = Vec::new();
         let mut needed = 0;
         for function in functions {
             starts.push(needed);
-            needed += configurations(function, samples.len()) as usize;
+            needed += configurations(function, samples) as usize;
         }
         Search {
             functions,
@@ -157,22 +163,22 @@ impl<'a> Search<'a> {
     }
 
     /// The parameters' values in a cell of a function.
-    fn arguments(&self, cell: usize, function: usize) -> [u16; 4] {
+    fn arguments(&self, cell: usize, function: usize) -> [Value; 4] {
         let mut rest = (cell - self.starts[function]) as u64;
-        let mut arguments = [0; 4];
+        let mut arguments = [Value::Bool(false); 4];
         for (place, kind) in self.functions[function].parameters.iter().enumerate().rev() {
-            let radix = radix(*kind, self.samples.len());
-            arguments[place] = (rest % radix) as u16;
+            let radix = radix(*kind, self.samples);
+            arguments[place] = kind.value((rest % radix) as u16);
             rest /= radix;
         }
         arguments
     }
 
     /// The cell of a function on the given values.
-    fn cell(&self, function: usize, values: &[u16]) -> usize {
+    fn cell(&self, function: usize, values: &[Value]) -> usize {
         let mut place = 0;
         for (kind, value) in self.functions[function].parameters.iter().zip(values) {
-            place = place * radix(*kind, self.samples.len()) + u64::from(*value);
+            place = place * radix(*kind, self.samples) + u64::from(value.digit());
         }
         self.starts[function] + place as usize
     }
@@ -202,38 +208,45 @@ impl<'a> Search<'a> {
     }
 
     /// Takes the newest value.
-    fn take(&mut self) -> u16 {
+    fn take(&mut self) -> Value {
         self.values.pop().expect("a value is there")
     }
 
+    /// Takes the newest value, a list: its samples, oldest first.
+    fn take_list(&mut self) -> (Kind, &'a [bool]) {
+        match self.take() {
+            Value::Suffix(contact, length) => {
+                let whole = self.samples.of(contact);
+                let first = whole.len() - usize::from(length);
+                (Kind::List(contact), &whole[first..])
+            }
+            Value::Bool(_) => unreachable!("a list is demanded"),
+        }
+    }
+
     fn unless(&mut self, target: usize) {
-        if self.take() == 0 {
+        if self.take() == Value::Bool(false) {
             self.frames.last_mut().expect("a frame is open").at = target;
         }
     }
 
     fn null(&mut self) {
-        let length = self.take();
-        self.values.push(u16::from(length == 0));
+        let (_, list) = self.take_list();
+        self.values.push(Value::Bool(list.is_empty()));
     }
 
     fn head(&mut self) -> Turn {
-        let length = self.take();
-        if length == 0 {
-            return Turn::Finished(Outcome::HeadOfEmpty);
+        match self.take_list() {
+            (_, []) => Turn::Finished(Outcome::HeadOfEmpty),
+            (_, [sample, ..]) => self.put(Value::Bool(*sample)),
         }
-        let sample = self.samples[self.samples.len() - usize::from(length)];
-        self.values.push(u16::from(sample));
-        Turn::Next
     }
 
     fn tail(&mut self) -> Turn {
-        let length = self.take();
-        if length == 0 {
-            return Turn::Finished(Outcome::TailOfEmpty);
+        match self.take_list() {
+            (_, []) => Turn::Finished(Outcome::TailOfEmpty),
+            (kind, [_, rest @ ..]) => self.put(kind.value(rest.len() as u16)),
         }
-        self.values.push(length - 1);
-        Turn::Next
     }
 
     /// Looks a call up; an unknown one is worked out first and then looked up again.
@@ -246,13 +259,13 @@ impl<'a> Search<'a> {
             Mark::Open | Mark::Forever => Turn::Forever,
             Mark::Decided => {
                 self.values.truncate(first);
-                self.use_cell(cell)
+                self.use_cell(cell, self.functions[callee].result)
             }
         }
     }
 
-    /// Goes on with a decided cell's outcome.
-    fn use_cell(&mut self, cell: usize) -> Turn {
+    /// Goes on with a decided cell's outcome, of a function with a result of a kind.
+    fn use_cell(&mut self, cell: usize, result: Kind) -> Turn {
         let frame = self.frames.last_mut().expect("a frame is open");
         let pass = self.passes[cell] + u32::from(cell >= frame.cell);
         frame.pass = frame.pass.max(pass);
@@ -260,12 +273,12 @@ impl<'a> Search<'a> {
         match self.cells[cell] {
             3 => Turn::Finished(Outcome::HeadOfEmpty),
             4 => Turn::Finished(Outcome::TailOfEmpty),
-            bool @ 1..=2 => self.put(bool - 1),
-            suffix => self.put(suffix - 5),
+            bool @ 1..=2 => self.put(result.value(bool - 1)),
+            suffix => self.put(result.value(suffix - 5)),
         }
     }
 
-    fn put(&mut self, value: u16) -> Turn {
+    fn put(&mut self, value: Value) -> Turn {
         self.values.push(value);
         Turn::Next
     }
@@ -276,11 +289,10 @@ impl<'a> Search<'a> {
         self.values.truncate(frame.floor);
         self.marks[frame.cell] = Mark::Decided;
         self.passes[frame.cell] = frame.pass;
-        self.cells[frame.cell] = match (outcome, self.functions[frame.function].result) {
-            (Outcome::HeadOfEmpty, _) => 3,
-            (Outcome::TailOfEmpty, _) => 4,
-            (Outcome::Value(value), Kind::Bool) => 1 + value,
-            (Outcome::Value(value), Kind::List) => 5 + value,
+        self.cells[frame.cell] = match outcome {
+            Outcome::HeadOfEmpty => 3,
+            Outcome::TailOfEmpty => 4,
+            Outcome::Value(value) => value.cell(),
         };
     }
 
@@ -300,7 +312,7 @@ impl<'a> Search<'a> {
             stored => u64::from(*stored),
         });
         Evaluation {
-            verdict: self.cells[self.samples.len()] as u8,
+            verdict: self.cells[main_cell(self.functions, self.samples)] as u8,
             passes,
             visits: visits.sum(),
             cells: self.cells,

@@ -1,6 +1,8 @@
 //! What each operation prints: the answer, and every memory that it may write.
 
+use super::super::oracle::program::Contacts;
 use super::super::oracle::search::Evaluation;
+use super::super::oracle::trace::{Trace, Traces};
 use super::super::oracle::{self, listing, program, record, ring};
 use super::fields::{Fields, Memory};
 use super::print;
@@ -12,9 +14,12 @@ pub fn run(operation: &str, mut fields: Fields) -> Option<String> {
         "take" => take(&mut fields),
         "fill" => fill(&mut fields),
         "check" => check(&mut fields),
-        "evaluate" => evaluate(&mut fields),
-        "pass" => pass(&mut fields),
-        "write" => write(&mut fields),
+        "evaluate" => evaluate(&mut fields, Contacts::One),
+        "evaluate-two" => evaluate(&mut fields, Contacts::Two),
+        "pass" => pass(&mut fields, Contacts::One),
+        "pass-two" => pass(&mut fields, Contacts::Two),
+        "write" => write(&mut fields, Contacts::One),
+        "write-two" => write(&mut fields, Contacts::Two),
         "read" => read(&mut fields),
         "check-record" | "examine" => check_record(&mut fields),
         "last" => last(&mut fields),
@@ -91,64 +96,80 @@ fn check(fields: &mut Fields) -> Option<String> {
     }))
 }
 
-fn evaluate(fields: &mut Fields) -> Option<String> {
-    let (program, trace) = (fields.bytes()?, fields.bytes()?);
+/// A trace, and how many samples it shall hold.
+fn trace(fields: &mut Fields) -> Option<Trace> {
+    let bytes = fields.bytes()?.lent().to_vec();
     let n = fields.number()?;
+    Some(Trace { bytes, n })
+}
+
+/// The trace of the ram, and of two contacts that of the guard.
+fn traces(fields: &mut Fields, contacts: Contacts) -> Option<Traces> {
+    let ram = trace(fields)?;
+    let guard = match contacts {
+        Contacts::One => None,
+        Contacts::Two => Some(trace(fields)?),
+    };
+    Some(Traces { ram, guard })
+}
+
+fn evaluate(fields: &mut Fields, contacts: Contacts) -> Option<String> {
+    let program = fields.bytes()?;
+    let traces = traces(fields, contacts)?;
     let mut table = fields.cells()?;
     fields.end()?;
-    let answer = oracle::evaluate(program.lent(), trace.lent(), n, table.lent_mut());
+    let answer = oracle::evaluate(program.lent(), &traces, table.lent_mut());
     if let Ok(evaluation) = &answer {
-        same_by_passes(evaluation, program.lent(), trace.lent(), n);
+        same_by_passes(evaluation, program.lent(), &traces);
     }
     Some(told(answer, |evaluation| verdict(&evaluation)) + &cells(&table))
 }
 
 /// Derivations and passes must come to the same cells, verdict and pass count.
-fn same_by_passes(evaluation: &Evaluation, program: &[u8], trace: &[u8], n: u64) {
+fn same_by_passes(evaluation: &Evaluation, program: &[u8], traces: &Traces) {
     let mut table = vec![0; evaluation.cells.len()];
-    let found = oracle::by_passes(program, trace, n, &mut table);
+    let found = oracle::by_passes(program, traces, &mut table);
     assert_eq!(found, Some((evaluation.verdict, evaluation.passes)));
     assert_eq!(table, evaluation.cells);
 }
 
-fn pass(fields: &mut Fields) -> Option<String> {
-    let (program, trace) = (fields.bytes()?, fields.bytes()?);
-    let n = fields.number()?;
+fn pass(fields: &mut Fields, contacts: Contacts) -> Option<String> {
+    let program = fields.bytes()?;
+    let traces = traces(fields, contacts)?;
     let mut table = fields.cells()?;
     fields.end()?;
-    let answer = oracle::make_pass(program.lent(), trace.lent(), n, table.lent_mut());
+    let answer = oracle::make_pass(program.lent(), &traces, table.lent_mut());
     Some(told(answer, |stored| format!(" stored {stored}")) + &cells(&table))
 }
 
-fn write(fields: &mut Fields) -> Option<String> {
-    let (program, trace) = (fields.bytes()?, fields.bytes()?);
-    let n = fields.number()?;
+fn write(fields: &mut Fields, contacts: Contacts) -> Option<String> {
+    let program = fields.bytes()?;
+    let traces = traces(fields, contacts)?;
     let mut table = fields.cells()?;
     let mut out = fields.written()?;
     fields.end()?;
-    let answer = record::write(
-        program.lent(),
-        trace.lent(),
-        n,
-        table.lent_mut(),
-        out.lent_mut(),
-    );
+    let answer = record::write(program.lent(), &traces, table.lent_mut(), out.lent_mut());
     let words = told(answer, |(length, evaluation)| {
         format!(" length {length}{}", verdict(&evaluation))
     });
     Some(words + &cells(&table) + &bytes(&out))
 }
 
-/// The parts of a record: the format, start and length of each that is in the bytes, and the numbers.
+/// The parts of a record: the format, start and length of each that is in the bytes, and the numbers. Format 3 alone
+/// has a guard trace.
 fn parts(parts: record::Parts) -> String {
-    let (program, trace) = (parts.program, parts.trace);
+    let (program, (trace, n)) = (parts.program, parts.traces.ram);
+    let guard = match parts.traces.guard {
+        Some(((start, length), m)) => format!(" guard {start} {length} m {m}"),
+        None => String::new(),
+    };
     let label = match parts.label {
         Some((start, length)) => format!("label {start} {length}"),
         None => "no label".to_string(),
     };
     format!(
-        " format {} program {} {} trace {} {} n {} {label} verdict {} passes {}",
-        parts.format, program.0, program.1, trace.0, trace.1, parts.n, parts.verdict, parts.passes
+        " format {} program {} {} trace {} {} n {n}{guard} {label} verdict {} passes {}",
+        parts.format, program.0, program.1, trace.0, trace.1, parts.verdict, parts.passes
     )
 }
 

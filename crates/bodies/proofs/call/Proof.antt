@@ -11,12 +11,12 @@ use Rattle.bodies.proofs.call.Statement.{statement}
 use Rattle.bodies.proofs.call.Tie as tie
 
 abbrev Inv-loop : tie.InvT-loop
-Inv-loop words trace table env depth node place count rest₀ index₀ i₀ rest index i =
+Inv-loop words traces table env depth node place count rest₀ index₀ i₀ rest index i =
     (place ≡ 4096 + 8 * calleeOf node)
-    × Along words (table .now) (evalAt words trace (table .now) env (depth - 1)) (calleeOf node) count (placesOf node) index rest i
+    × Along words (table .now) (evalAt words traces (table .now) env (depth - 1)) (calleeOf node) count (placesOf node) index rest i
 
 abbrev μ-loop : tie.MeasureT-loop
-μ-loop words trace table env depth node place count rest₀ index₀ i₀ rest index i = count - i
+μ-loop words traces table env depth node place count rest₀ index₀ i₀ rest index i = count - i
 
 callee-requires : tie.Need-callee-requires Inv-loop μ-loop
 callee-requires c κs = search needs

@@ -183,9 +183,9 @@ operand-claims t = (
 -- a word, by the sort that was found
 at-sort : (t : ℕ) (s : eval-lts.After-sort (eval-claims t) (eval-at t) eval.Post) (k : ℕ) → s .sort .result ≡ k
     → let a = s .before .before .args in
-    evalWord (a .words .now) (a .trace .now) (a .table .now .now) (a .env .now) (a .depth) (a .node)
-    ≡ sortBy (a .words .now) (a .trace .now) (a .table .now .now) (a .env .now)
-    (evalAt (a .words .now) (a .trace .now) (a .table .now .now) (a .env .now) (a .depth - 1)) (a .node) k
+    evalWord (a .words .now) (a .traces .now) (a .table .now .now) (a .env .now) (a .depth) (a .node)
+    ≡ sortBy (a .words .now) (a .traces .now) (a .table .now .now) (a .env .now)
+    (evalAt (a .words .now) (a .traces .now) (a .table .now .now) (a .env .now) (a .depth - 1)) (a .node) k
 at-sort t s k e = eval-sort _ _ _ _ _ _ (s .before .if1 .left) k (s .sort .ensures) e
 
 branch-second-requires : (t : ℕ) → branch-lts.Need-second-requires (branch-claims t) (branch-at t) branch.Post
@@ -210,12 +210,12 @@ branch-returns-3 : (t : ℕ) → branch-lts.Need-returns-3 (branch-claims t) (br
 branch-returns-3 t c = sym (branch-other _ _ _ _ _ _ _ (c .before .if1 .left) (c .if2 .left))
 
 abbrev call-Inv-loop : call-lts.InvT-loop
-call-Inv-loop words trace table env depth node place count rest₀ index₀ i₀ rest index i =
+call-Inv-loop words traces table env depth node place count rest₀ index₀ i₀ rest index i =
     (place ≡ 4096 + 8 * calleeOf node)
-    × Along words (table .now) (evalAt words trace (table .now) env depth) (calleeOf node) count (placesOf node) index rest i
+    × Along words (table .now) (evalAt words traces (table .now) env depth) (calleeOf node) count (placesOf node) index rest i
 
 abbrev call-μ-loop : call-lts.MeasureT-loop
-call-μ-loop words trace table env depth node place count rest₀ index₀ i₀ rest index i = count - i
+call-μ-loop words traces table env depth node place count rest₀ index₀ i₀ rest index i = count - i
 
 call-callee-requires : (t : ℕ) → call-lts.Need-callee-requires (call-claims t) (call-at t) call.Post call-Inv-loop call-μ-loop
 call-callee-requires t c κs = search needs
@@ -393,6 +393,9 @@ eval-param-requires t c κs = search needs
 eval-element-copy-out-head : (t : ℕ) → eval-lts.Need-element-copy-out-head (eval-claims t) (eval-at t) eval.Post
 eval-element-copy-out-head t c = omega arith
 
+eval-element-copy-out-head-2 : (t : ℕ) → eval-lts.Need-element-copy-out-head-2 (eval-claims t) (eval-at t) eval.Post
+eval-element-copy-out-head-2 t c = omega arith
+
 eval-first-requires : (t : ℕ) → eval-lts.Need-first-requires (eval-claims t) (eval-at t) eval.Post
 eval-first-requires t c κs = search needs
 
@@ -420,8 +423,11 @@ eval-operand-requires-3 t c κs = (omega arith, tt)
 eval-null-requires : (t : ℕ) → eval-lts.Need-null-requires (eval-claims t) (eval-at t) eval.Post
 eval-null-requires t c κs = search needs
 
-eval-element-copy-out-head-2 : (t : ℕ) → eval-lts.Need-element-copy-out-head-2 (eval-claims t) (eval-at t) eval.Post
-eval-element-copy-out-head-2 t c = omega arith
+eval-element-copy-out-head-3 : (t : ℕ) → eval-lts.Need-element-copy-out-head-3 (eval-claims t) (eval-at t) eval.Post
+eval-element-copy-out-head-3 t c = omega arith
+
+eval-element-copy-out-head-4 : (t : ℕ) → eval-lts.Need-element-copy-out-head-4 (eval-claims t) (eval-at t) eval.Post
+eval-element-copy-out-head-4 t c = omega arith
 
 eval-param-requires-2 : (t : ℕ) → eval-lts.Need-param-requires-2 (eval-claims t) (eval-at t) eval.Post
 eval-param-requires-2 t c κs = search needs
@@ -465,8 +471,11 @@ eval-null-requires-3 t c κs = search needs
 eval-branch-requires-3 : (t : ℕ) → eval-lts.Need-branch-requires-3 (eval-claims t) (eval-at t) eval.Post
 eval-branch-requires-3 t c κs = (omega arith, tt)
 
-eval-element-copy-out-head-3 : (t : ℕ) → eval-lts.Need-element-copy-out-head-3 (eval-claims t) (eval-at t) eval.Post
-eval-element-copy-out-head-3 t c = omega arith
+eval-element-copy-out-head-5 : (t : ℕ) → eval-lts.Need-element-copy-out-head-5 (eval-claims t) (eval-at t) eval.Post
+eval-element-copy-out-head-5 t c = omega arith
+
+eval-element-copy-out-head-6 : (t : ℕ) → eval-lts.Need-element-copy-out-head-6 (eval-claims t) (eval-at t) eval.Post
+eval-element-copy-out-head-6 t c = omega arith
 
 eval-param-requires-7 : (t : ℕ) → eval-lts.Need-param-requires-7 (eval-claims t) (eval-at t) eval.Post
 eval-param-requires-7 t c κs = search needs
@@ -490,7 +499,7 @@ eval-returns-3 : (t : ℕ) → eval-lts.Need-returns-3 (eval-claims t) (eval-at 
 eval-returns-3 t c = c .param .ensures ∙ sym (at-sort t (c .before .before) 1 (c .before .match .keys2))
 
 eval-returns-4 : (t : ℕ) → eval-lts.Need-returns-4 (eval-claims t) (eval-at t) eval.Post
-eval-returns-4 t c = (rw (c .before .operand .ensures, c .before .before .first .ensures) at (c .head .ensures)) ∙ sym (at-sort t (c .before .before .before .before .before) 2 (c .before .before .before .before .match .keys3))
+eval-returns-4 t c = (rw (c .before .operand .ensures, c .before .before .first .ensures) at (c .head .ensures)) ∙ sym (at-sort t (c .before .before .before .before .before .before) 2 (c .before .before .before .before .before .match .keys3))
 
 eval-returns-5 : (t : ℕ) → eval-lts.Need-returns-5 (eval-claims t) (eval-at t) eval.Post
 eval-returns-5 t c = (rw (c .before .operand2 .ensures, c .before .before .first2 .ensures) at (c .tail .ensures)) ∙ sym (at-sort t (c .before .before .before .before) 3 (c .before .before .before .match .keys4))
@@ -499,7 +508,7 @@ eval-returns-6 : (t : ℕ) → eval-lts.Need-returns-6 (eval-claims t) (eval-at 
 eval-returns-6 t c = (rw (c .before .operand3 .ensures, c .before .before .first3 .ensures) at (c .null .ensures)) ∙ sym (at-sort t (c .before .before .before .before) 4 (c .before .before .before .match .keys5))
 
 eval-returns-7 : (t : ℕ) → eval-lts.Need-returns-7 (eval-claims t) (eval-at t) eval.Post
-eval-returns-7 t c = (rw (c .before .param2 .ensures) at (c .head2 .ensures)) ∙ sym (at-sort t (c .before .before .before .before) 5 (c .before .before .before .match .keys6))
+eval-returns-7 t c = (rw (c .before .param2 .ensures) at (c .head2 .ensures)) ∙ sym (at-sort t (c .before .before .before .before .before) 5 (c .before .before .before .before .match .keys6))
 
 eval-returns-8 : (t : ℕ) → eval-lts.Need-returns-8 (eval-claims t) (eval-at t) eval.Post
 eval-returns-8 t c = (rw (c .before .param3 .ensures) at (c .tail2 .ensures)) ∙ sym (at-sort t (c .before .before .before) 6 (c .before .before .match .keys7))
@@ -521,7 +530,7 @@ eval-returns-12 t c = (rw (c .before .null3 .ensures, c .before .before .param6 
 
 eval-returns-13 : (t : ℕ) → eval-lts.Need-returns-13 (eval-claims t) (eval-at t) eval.Post
 unfolding branchAt
-eval-returns-13 t c = (rw (c .before .head3 .ensures, c .before .before .param7 .ensures) at (c .branch4 .ensures)) ∙ sym (at-sort t (c .before .before .before .before .before) 11 (c .before .before .before .before .match .keys12))
+eval-returns-13 t c = (rw (c .before .head3 .ensures, c .before .before .param7 .ensures) at (c .branch4 .ensures)) ∙ sym (at-sort t (c .before .before .before .before .before .before) 11 (c .before .before .before .before .before .match .keys12))
 
 eval-returns-14 : (t : ℕ) → eval-lts.Need-returns-14 (eval-claims t) (eval-at t) eval.Post
 unfolding callAt
@@ -564,6 +573,9 @@ operand-returns-3 t c = c .param2 .ensures ∙ sym (eval-sort _ _ _ _ _ _ (c .be
 operand-element-copy-out-head : (t : ℕ) → operand-lts.Need-element-copy-out-head (operand-claims t) (operand-at t) operand.Post
 operand-element-copy-out-head t c = omega arith
 
+operand-element-copy-out-head-2 : (t : ℕ) → operand-lts.Need-element-copy-out-head-2 (operand-claims t) (operand-at t) operand.Post
+operand-element-copy-out-head-2 t c = omega arith
+
 operand-param-requires-3 : (t : ℕ) → operand-lts.Need-param-requires-3 (operand-claims t) (operand-at t) operand.Post
 operand-param-requires-3 t c κs = search needs
 
@@ -571,7 +583,7 @@ operand-head-requires : (t : ℕ) → operand-lts.Need-head-requires (operand-cl
 operand-head-requires t c κs = search needs
 
 operand-returns-4 : (t : ℕ) → operand-lts.Need-returns-4 (operand-claims t) (operand-at t) operand.Post
-operand-returns-4 t c = (rw (c .before .param3 .ensures) at (c .head .ensures)) ∙ sym (eval-sort _ _ _ _ _ _ (c .before .before .before .before .before .before .before .if1 .left) 5 (c .before .before .before .before .before .before .sort .ensures) (c .before .before .before .if4 .taken))
+operand-returns-4 t c = (rw (c .before .param3 .ensures) at (c .head .ensures)) ∙ sym (eval-sort _ _ _ _ _ _ (c .before .before .before .before .before .before .before .before .if1 .left) 5 (c .before .before .before .before .before .before .before .sort .ensures) (c .before .before .before .before .if4 .taken))
 
 operand-eval-requires : (t : ℕ) → operand-lts.Need-eval-requires (operand-claims t) (operand-at t) operand.Post
 operand-eval-requires t c κs = (omega arith, tt)
@@ -647,6 +659,7 @@ pub +branch+call+call-one+eval+operand-spec : {M : Type 1} → statement M
     (eval-constant-requires t)
     (eval-param-requires t)
     (eval-element-copy-out-head t)
+    (eval-element-copy-out-head-2 t)
     (eval-first-requires t)
     (eval-operand-requires t)
     (eval-head-requires t)
@@ -656,7 +669,8 @@ pub +branch+call+call-one+eval+operand-spec : {M : Type 1} → statement M
     (eval-first-requires-3 t)
     (eval-operand-requires-3 t)
     (eval-null-requires t)
-    (eval-element-copy-out-head-2 t)
+    (eval-element-copy-out-head-3 t)
+    (eval-element-copy-out-head-4 t)
     (eval-param-requires-2 t)
     (eval-head-requires-2 t)
     (eval-param-requires-3 t)
@@ -671,7 +685,8 @@ pub +branch+call+call-one+eval+operand-spec : {M : Type 1} → statement M
     (eval-param-requires-6 t)
     (eval-null-requires-3 t)
     (eval-branch-requires-3 t)
-    (eval-element-copy-out-head-3 t)
+    (eval-element-copy-out-head-5 t)
+    (eval-element-copy-out-head-6 t)
     (eval-param-requires-7 t)
     (eval-head-requires-3 t)
     (eval-branch-requires-4 t)
@@ -705,6 +720,7 @@ pub +branch+call+call-one+eval+operand-spec : {M : Type 1} → statement M
     (operand-param-requires-2 t)
     (operand-returns-3 t)
     (operand-element-copy-out-head t)
+    (operand-element-copy-out-head-2 t)
     (operand-param-requires-3 t)
     (operand-head-requires t)
     (operand-returns-4 t)

@@ -15,18 +15,18 @@ add-cell c = search needs
 returns : tie.Need-returns
 returns c = sym (lookup-past _ _ _ (c .before .before .first-cell .ensures) (c .if1 .taken))
 
-mul-held : tie.Need-mul-held
-mul-held c = search needs
+mul-working : tie.Need-mul-working
+mul-working c = search needs
 
-shared-slice-read-held : tie.Need-shared-slice-read-held
-shared-slice-read-held c = search needs
+shared-slice-read-working : tie.Need-shared-slice-read-working
+shared-slice-read-working c = search needs
 
-held-requires : tie.Need-held-requires
-held-requires c κs = search needs
+working-requires : tie.Need-working-requires
+working-requires c κs = search needs
 
 returns-2 : tie.Need-returns-2
 unfolding lookupBy
-returns-2 c = rw (c .before .before .before .before .first-cell .ensures) at (c .held .ensures)
+returns-2 c = rw (c .before .before .before .before .first-cell .ensures) at (c .working .ensures)
 
 pub lookup-spec : {M : Type 1} → statement M
 lookup-spec =
@@ -35,7 +35,7 @@ lookup-spec =
     first-cell-requires
     add-cell
     returns
-    mul-held
-    shared-slice-read-held
-    held-requires
+    mul-working
+    shared-slice-read-working
+    working-requires
     returns-2)

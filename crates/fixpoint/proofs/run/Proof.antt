@@ -9,11 +9,11 @@ use Rattle.fixpoint.proofs.run.Statement.{statement}
 use Rattle.fixpoint.proofs.run.Tie as tie
 
 abbrev Inv-loop : tie.InvT-loop
-Inv-loop words trace functions table₀ n starts count done₀ table done =
-    Running (setup words functions trace) n starts count mostPasses table₀ table done
+Inv-loop words traces functions table₀ n starts count done₀ table done =
+    Running (setup words functions traces) n starts count mostPasses table₀ table done
 
 abbrev μ-loop : tie.MeasureT-loop
-μ-loop words trace functions table₀ n starts count done₀ table done = mostPasses - done
+μ-loop words traces functions table₀ n starts count done₀ table done = mostPasses - done
 
 loop-holds : tie.Need-loop-holds Inv-loop μ-loop
 loop-holds c = running-start _ _ _ _ mostPasses _

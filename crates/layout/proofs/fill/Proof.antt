@@ -1,6 +1,6 @@
--- `fill` meets its contract: three tests, then the parts are put one after the other, and there is room for each that is left.
+-- `fill` meets its contract: four tests, then the parts are put one after the other, and there is room for each that is left.
 use Prim.Native.Nat.{ℕ, _+_, _≤_}
-use mathlib.Core.Path.{_≡_, sym, _∙_}
+use mathlib.Core.Path.{_≡_, sym, subst, _∙_}
 use mathlib.Core.Bool.{true}
 use mathlib.Core.List.{List, _∷_, _++_}
 use native.Mathlib.Omega.{arith}
@@ -8,142 +8,246 @@ use lib.ListN.{length}
 use borrow.Author.Needs.{needs}
 use borrow.Author.Tests.{not-true, not-false}
 use Rattle.trace.specs.{bytesFor, samples, pack}
+use Rattle.semantics.specs.declared.Sort.{Sort}
+use Rattle.semantics.specs.declared.Sort.the-variants.{One, Two}
+use Rattle.semantics.specs.Handed.{Handed, handed}
 use Rattle.semantics.specs.Verdicts.{verdictNumber}
 use Rattle.encoding.specs.{lowFirst}
 use Rattle.encoding.proofs.Putting.{Left, left-put, left-end, left-front}
-use Rattle.rule.specs.Form.{AreBytes}
-use Rattle.layout.specs.Form.{format2, Contents, mostVerdict, resultBytes, trailerBytes, trailer, layoutIn, layout}
-use Rattle.layout.specs.Filling.{recorded, isPacking}
-use Rattle.layout.proofs.Filling.{packing-size, packing-same, trailer-is, size-is, no-packing, no-verdict, no-space, put-whole}
+use Rattle.layout.specs.Form.{format2, format3, Contents, mostVerdict, resultBytes, leastTrailer, trailerBytes, trailer, layoutIn, layout}
+use Rattle.layout.specs.Filling.{recorded, isPacking, arePackings}
+use Rattle.layout.proofs.Filling.{packing-size, packing-same, layout-one, trailer-one, trailer-two, size-one, size-two, no-packing, no-verdict, no-space, put-whole}
 use Rattle.layout.proofs.fill.Statement.{statement}
 use Rattle.layout.proofs.fill.Tie as tie
 
--- what is recorded, and its layout from each part on
-abbrev contents : tie.Start → Contents
-contents s = recorded (s .args .program .now) (s .args .trace .now) (s .args .n) (s .args .verdict)
+-- the traces handed in, as those of a sort, and what is recorded
+abbrev traces : tie.Start → Sort → Handed
+traces s sort = let a = s .args in handed sort (a .ram .now) (a .n) (a .guard .now) (a .m)
 
-abbrev from-verdict : tie.Start → List ℕ
-from-verdict s = (verdictNumber (s .args .verdict .decision) ∷ lowFirst 4 (s .args .verdict .passes)) ++ trailer format2 (contents s)
+abbrev contents : tie.Start → Sort → Contents
+contents s sort = recorded (s .args .program .now) (traces s sort) (s .args .verdict)
 
-abbrev packed : tie.Start → List ℕ
-packed s = pack (samples (s .args .trace .now) (s .args .n))
+-- its layout from the verdict on, and the bytes of the traces
+abbrev result : tie.Start → List ℕ
+result s = verdictNumber (s .args .verdict .decision) ∷ lowFirst 4 (s .args .verdict .passes)
+
+abbrev packed-ram : tie.Start → List ℕ
+packed-ram s = pack (samples (s .args .ram .now) (s .args .n))
+
+abbrev packed-guard : tie.Start → List ℕ
+packed-guard s = pack (samples (s .args .guard .now) (s .args .m))
 
 -- ---- The tests
 
-abbrev start-asked : tie.After-is-packing → tie.Start
-start-asked c = c .before .before .before .before
+abbrev start : tie.Else2 → tie.Start
+start c = c .before .before .before .before .before .before .before .before
 
-abbrev start-packing : tie.Else1 → tie.Start
-start-packing c = start-asked (c .before)
+-- both traces are packings, of few bytes, which are those of their samples
+ram-packing : (c : tie.Else2) → let a = start c .args in isPacking (a .ram .now) (a .n) ≡ true
+ram-packing c = sym (c .before .before .before .is-packing .ensures) ∙ not-false _ (c .before .before .if1 .left)
 
-packing : (c : tie.Else1) → let a = start-packing c .args in isPacking (a .trace .now) (a .n) ≡ true
-packing c = sym (c .before .is-packing .ensures) ∙ not-false _ (c .if1 .left)
+guard-packing : (c : tie.Else2) → let a = start c .args in isPacking (a .guard .now) (a .m) ≡ true
+guard-packing c = sym (c .before .is-packing2 .ensures) ∙ not-false _ (c .if2 .left)
 
-size : (c : tie.Else1) → let a = start-packing c .args in length (a .trace .now) ≡ bytesFor (a .n)
-size c = let a = start-packing c .args in packing-size (a .trace .now) (a .n) (packing c)
+packings : (c : tie.Else2) → arePackings (traces (start c) (start c .args .sort)) ≡ true
+packings c = rw (ram-packing c, guard-packing c)
+
+ram-size : (c : tie.Else2) → let a = start c .args in length (a .ram .now) ≡ bytesFor (a .n)
+ram-size c = packing-size _ _ (ram-packing c)
+
+guard-size : (c : tie.Else2) → let a = start c .args in length (a .guard .now) ≡ bytesFor (a .m)
+guard-size c = packing-size _ _ (guard-packing c)
 
 -- n / 8 rounded up, for any n of 16 bits
-few : (c : tie.Else1) → length (start-packing c .args .trace .now) ≤ 8192
+few : (c : tie.Else2) → let a = start c .args in (length (a .ram .now) ≤ 8192) × (length (a .guard .now) ≤ 8192)
 unfolding bytesFor
-few c = omega (arith, size c, start-packing c .fits .n)
+few c = (omega (arith, ram-size c, start c .fits .n), omega (arith, guard-size c, start c .fits .m))
 
-are-bytes : (c : tie.Else1) → AreBytes (start-packing c .args .trace .now)
-are-bytes c i = omega (arith, c .before .before .before .shared-slice-known2 .given i)
+ram-same : (c : tie.Else2) → start c .args .ram .now ≡ packed-ram (start c)
+ram-same c =
+    let known = c .before .before .before .before .before .before in
+    packing-same _ _ (ram-packing c) (λ i. omega (arith, known .shared-slice-known2 .given i))
 
--- the trace's bytes are those of its samples
-same : (c : tie.Else1) → start-packing c .args .trace .now ≡ packed (start-packing c)
-same c = let a = start-packing c .args in packing-same (a .trace .now) (a .n) (packing c) (are-bytes c)
-
--- the sum is the record's length
-sized : (c : tie.Else1) → let a = start-packing c .args in
-    length (a .program .now) + (length (a .trace .now) + resultBytes) + trailerBytes ≡ length (layout (contents (start-packing c)))
-sized c =
-    let s = start-packing c in
-    let e = size-is (s .args .program .now) (s .args .trace .now) (s .args .n) (s .args .verdict) (size c) in
-    omega (arith, e)
-
-abbrev packing-number : tie.After-verdict-number → tie.Else1
-packing-number c = c .before
+guard-same : (c : tie.Else2) → start c .args .guard .now ≡ packed-guard (start c)
+guard-same c =
+    let known = c .before .before .before .before .before in
+    packing-same _ _ (guard-packing c) (λ i. omega (arith, known .shared-slice-known3 .given i))
 
 -- the number is the one recorded
-told : (c : tie.After-verdict-number) → c .verdict-number .result ≡ contents (start-packing (packing-number c)) .verdict
+told : (c : tie.After-verdict-number) (sort : Sort) → c .verdict-number .result ≡ contents (start (c .before)) sort .verdict
 unfolding recorded
-told c = c .verdict-number .ensures
+told c sort = c .verdict-number .ensures
 
-small : (c : tie.Else2) → contents (start-packing (packing-number (c .before))) .verdict ≤ mostVerdict
-small c = rw (← told (c .before)) (c .if2 .left)
-
-abbrev packing-room : tie.Else3 → tie.Else1
-packing-room c = packing-number (c .before .before)
-
-abbrev start : tie.Else3 → tie.Start
-start c = start-packing (packing-room c)
-
-room : (c : tie.Else3) → length (layout (contents (start c))) ≤ length (start c .args .out .now)
-room c = omega (arith, sized (packing-room c), c .if3 .left)
+small : (c : tie.Else3) (sort : Sort) → contents (start (c .before .before)) sort .verdict ≤ mostVerdict
+small c sort = rw (← told (c .before) sort) (c .if3 .left)
 
 -- ---- What is left of the record, and the place for it
 
-abbrev Rest : tie.Start → List ℕ → ℕ → List ℕ → Type 0
-Rest s = Left (s .args .out .now) 0 (layout (contents s))
+abbrev Rest : tie.Start → Sort → List ℕ → ℕ → List ℕ → Type 0
+Rest s sort = Left (s .args .out .now) 0 (layout (contents s sort))
 
-at-start : (c : tie.Else3) → let s = start c in Rest s (s .args .out .now) 0 (s .args .program .now ++ (packed s ++ from-verdict s))
+-- ---- With one trace
+
+abbrev tests-one : tie.After-enum-told → tie.Else3
+tests-one c = c .before .before
+
+abbrev asked-one : tie.After-enum-told → tie.Else2
+asked-one c = tests-one c .before .before
+
+abbrev start-one : tie.Else4 → tie.Start
+start-one c = start (asked-one (c .before))
+
+-- the sum is the record's length
+sized-one : (c : tie.Else2) → let a = start c .args in
+    length (a .program .now) + (length (a .ram .now) + resultBytes) + leastTrailer ≡ length (layout (contents (start c) One))
+sized-one c =
+    let a = start c .args in
+    omega (arith, size-one (a .program .now) (a .ram .now) (a .n) (a .guard .now) (a .m) (a .verdict) (ram-size c))
+
+begun-one : (c : tie.Else4) → let s = start-one c in
+    Rest s One (s .args .out .now) 0 (s .args .program .now ++ (packed-ram s ++ (result s ++ trailer format2 (contents s One))))
+begun-one c =
+    let s = start-one c in
+    let a = s .args in
+    subst (λ (l : List ℕ). Rest s One (a .out .now) 0 l) (layout-one (a .program .now) (a .ram .now) (a .n) (a .guard .now) (a .m) (a .verdict))
+    (left-front (a .out .now) (layout (contents s One)) (omega (arith, sized-one (asked-one (c .before)), c .if4 .left)))
+
+abbrev room-ram : tie.After-put → tie.Else4
+room-ram c = c .before .before
+
+ram-one : (c : tie.After-put) → let s = start-one (room-ram c) in
+    Rest s One (c .put .last .0) (c .put .result) (packed-ram s ++ (result s ++ trailer format2 (contents s One)))
+ram-one c = left-put (start-one (room-ram c) .args .program .now) (begun-one (room-ram c)) (c .put .ensures)
+
+abbrev room-verdict : tie.After-put2 → tie.Else4
+room-verdict c = room-ram (c .before .before .before .before)
+
+verdict-one : (c : tie.After-put2) → let s = start-one (room-verdict c) in
+    Rest s One (c .put2 .last .0) (c .put2 .result) (result s ++ trailer format2 (contents s One))
+verdict-one c =
+    let r = room-verdict c in
+    left-put (packed-ram (start-one r)) (ram-one (c .before .before .before .before)) (rw (ram-same (asked-one (r .before))) at (c .put2 .ensures))
+
+abbrev room-trailer : tie.After-put3 → tie.Else4
+room-trailer c = room-verdict (c .before .before .before .before .before .before)
+
+trailer-left-one : (c : tie.After-put3) → let s = start-one (room-trailer c) in
+    Rest s One (c .put3 .last .0) (c .put3 .result) (trailer format2 (contents s One))
+trailer-left-one c =
+    let r = room-trailer c in
+    left-put (result (start-one r)) (verdict-one (c .before .before .before .before .before .before))
+    (rw (c .before .before .verdict-bytes .ensures, tests-one (r .before) .before .verdict-number .ensures) at (c .put3 .ensures))
+
+-- ---- With two
+
+abbrev tests-two : tie.After-enum-told2 → tie.Else3
+tests-two c = c .before .before
+
+abbrev asked-two : tie.After-enum-told2 → tie.Else2
+asked-two c = tests-two c .before .before
+
+abbrev start-two : tie.Else5 → tie.Start
+start-two c = start (asked-two (c .before))
+
+sized-two : (c : tie.Else2) → let a = start c .args in
+    length (a .program .now) + (length (a .ram .now) + length (a .guard .now) + resultBytes) + 10 ≡ length (layout (contents (start c) Two))
+unfolding trailerBytes
+sized-two c =
+    let a = start c .args in
+    omega (arith, size-two (a .program .now) (a .ram .now) (a .n) (a .guard .now) (a .m) (a .verdict) (ram-size c) (guard-size c))
+
+begun-two : (c : tie.Else5) → let s = start-two c in
+    Rest s Two (s .args .out .now) 0
+    (s .args .program .now ++ (packed-ram s ++ (packed-guard s ++ (result s ++ trailer format3 (contents s Two)))))
 unfolding layoutIn recorded
-at-start c = left-front (start c .args .out .now) (layout (contents (start c))) (room c)
+begun-two c =
+    let s = start-two c in
+    left-front (s .args .out .now) (layout (contents s Two)) (omega (arith, sized-two (asked-two (c .before)), c .if5 .left))
 
-abbrev tests-trace : tie.After-put → tie.Else3
-tests-trace c = c .before .before
+abbrev room-ram-two : tie.After-put5 → tie.Else5
+room-ram-two c = c .before .before
 
-at-trace : (c : tie.After-put) → let s = start (tests-trace c) in Rest s (c .put .last .0) (c .put .result) (packed s ++ from-verdict s)
-at-trace c = left-put (start (tests-trace c) .args .program .now) (at-start (tests-trace c)) (c .put .ensures)
+ram-two : (c : tie.After-put5) → let s = start-two (room-ram-two c) in
+    Rest s Two (c .put5 .last .0) (c .put5 .result) (packed-ram s ++ (packed-guard s ++ (result s ++ trailer format3 (contents s Two))))
+ram-two c = left-put (start-two (room-ram-two c) .args .program .now) (begun-two (room-ram-two c)) (c .put5 .ensures)
 
-abbrev tests-verdict : tie.After-put2 → tie.Else3
-tests-verdict c = tests-trace (c .before .before .before .before)
+abbrev room-guard : tie.After-put6 → tie.Else5
+room-guard c = room-ram-two (c .before .before .before .before)
 
-at-verdict : (c : tie.After-put2) → let s = start (tests-verdict c) in Rest s (c .put2 .last .0) (c .put2 .result) (from-verdict s)
-at-verdict c =
-    left-put (packed (start (tests-verdict c))) (at-trace (c .before .before .before .before))
-    (rw (same (packing-room (tests-verdict c))) at (c .put2 .ensures))
+guard-two : (c : tie.After-put6) → let s = start-two (room-guard c) in
+    Rest s Two (c .put6 .last .0) (c .put6 .result) (packed-guard s ++ (result s ++ trailer format3 (contents s Two)))
+guard-two c =
+    let r = room-guard c in
+    left-put (packed-ram (start-two r)) (ram-two (c .before .before .before .before)) (rw (ram-same (asked-two (r .before))) at (c .put6 .ensures))
 
-abbrev tests-trailer : tie.After-put3 → tie.Else3
-tests-trailer c = tests-verdict (c .before .before .before .before .before .before)
+abbrev room-verdict-two : tie.After-put7 → tie.Else5
+room-verdict-two c = room-guard (c .before .before .before .before)
 
-at-trailer : (c : tie.After-put3) → let s = start (tests-trailer c) in Rest s (c .put3 .last .0) (c .put3 .result) (trailer format2 (contents s))
-at-trailer c =
-    let s = start (tests-trailer c) in
-    let number = tests-trailer c .before .before .verdict-number .ensures in
-    left-put (verdictNumber (s .args .verdict .decision) ∷ lowFirst 4 (s .args .verdict .passes))
-    (at-verdict (c .before .before .before .before .before .before))
-    (rw (c .before .before .verdict-bytes .ensures, number) at (c .put3 .ensures))
+verdict-two : (c : tie.After-put7) → let s = start-two (room-verdict-two c) in
+    Rest s Two (c .put7 .last .0) (c .put7 .result) (result s ++ trailer format3 (contents s Two))
+verdict-two c =
+    let r = room-verdict-two c in
+    left-put (packed-guard (start-two r)) (guard-two (c .before .before .before .before))
+    (rw (guard-same (asked-two (r .before))) at (c .put7 .ensures))
+
+abbrev room-trailer-two : tie.After-put8 → tie.Else5
+room-trailer-two c = room-verdict-two (c .before .before .before .before .before .before)
+
+trailer-left-two : (c : tie.After-put8) → let s = start-two (room-trailer-two c) in
+    Rest s Two (c .put8 .last .0) (c .put8 .result) (trailer format3 (contents s Two))
+trailer-left-two c =
+    let r = room-trailer-two c in
+    left-put (result (start-two r)) (verdict-two (c .before .before .before .before .before .before))
+    (rw (c .before .before .verdict-bytes2 .ensures, tests-two (r .before) .before .verdict-number .ensures) at (c .put8 .ensures))
+
+-- ---- The needs
 
 is-packing-requires : tie.Need-is-packing-requires
 is-packing-requires c κs = search needs
 
 returns : tie.Need-returns
-returns c = no-packing _ _ _ _ _ (sym (c .before .is-packing .ensures) ∙ not-true _ (c .if1 .taken))
+returns c = no-packing _ _ _ _ (rw (sym (c .before .is-packing .ensures) ∙ not-true _ (c .if1 .taken)))
+
+is-packing-requires-2 : tie.Need-is-packing-requires-2
+is-packing-requires-2 c κs = search needs
+
+returns-2 : tie.Need-returns-2
+returns-2 c =
+    let asked = c .before in
+    no-packing _ _ _ _
+    (rw (
+      sym (asked .before .before .is-packing .ensures) ∙ not-false _ (asked .before .if1 .left),
+      sym (asked .is-packing2 .ensures) ∙ not-true _ (c .if2 .taken),
+    ))
 
 verdict-number-requires : tie.Need-verdict-number-requires
 verdict-number-requires c κs = search needs
 
-cast-if2 : tie.Need-cast-if2
-cast-if2 c = search needs
+cast-if3 : tie.Need-cast-if3
+cast-if3 c = search needs
 
-returns-2 : tie.Need-returns-2
-returns-2 c = no-verdict _ _ _ _ _ (packing (packing-number (c .before))) (rw (← told (c .before)) (c .if2 .taken))
+returns-3 : tie.Need-returns-3
+returns-3 c =
+    let s = start (c .before .before) in
+    no-verdict _ (traces s (s .args .sort)) _ _ (packings (c .before .before)) (rw (← told (c .before) (s .args .sort)) (c .if3 .taken))
+
+enum-told : tie.Need-enum-told
+enum-told c = search needs
 
 add-second : tie.Need-add-second
 add-second c = search needs
 
 add-first : tie.Need-add-first
-add-first c = record { fits = omega (arith, few (packing-number (c .before)), start-packing (packing-number (c .before)) .good .0 .1) }
+add-first c = record { fits = omega (arith, few (asked-one c), start (asked-one c) .good .0 .1) }
 
-add-if3 : tie.Need-add-if3
-add-if3 c = record { fits = omega (arith, few (packing-number (c .before)), start-packing (packing-number (c .before)) .good .0 .1) }
+add-if4 : tie.Need-add-if4
+add-if4 c = record { fits = omega (arith, few (asked-one c), start (asked-one c) .good .0 .1) }
 
-returns-3 : tie.Need-returns-3
-returns-3 c =
-    let p = packing-number (c .before .before) in
-    no-space _ _ _ _ _ (packing p) (small (c .before)) (rw (← sized p) (c .if3 .taken))
+returns-4 : tie.Need-returns-4
+returns-4 c =
+    let t = tests-one (c .before) in
+    let asked = asked-one (c .before) in
+    rw (c .before .enum-told .given .1) (no-space _ (traces (start asked) One) _ _ (packings asked) (small t One) (rw (← sized-one asked) (c .if4 .taken)))
 
 put-requires : tie.Need-put-requires
 put-requires c κs = search needs
@@ -172,19 +276,90 @@ slice-aggregate-put-2 c = search needs
 put-requires-4 : tie.Need-put-requires-4
 put-requires-4 c κs = search needs
 
+enum-told-2 : tie.Need-enum-told-2
+enum-told-2 c = search needs
+
+add-second-2 : tie.Need-add-second-2
+add-second-2 c = search needs
+
+add-second-3 : tie.Need-add-second-3
+add-second-3 c = record { fits = omega (arith, few (asked-two c)) }
+
+add-first-2 : tie.Need-add-first-2
+add-first-2 c = record { fits = omega (arith, few (asked-two c), start (asked-two c) .good .0 .1) }
+
+add-if5 : tie.Need-add-if5
+add-if5 c = record { fits = omega (arith, few (asked-two c), start (asked-two c) .good .0 .1) }
+
+returns-5 : tie.Need-returns-5
+returns-5 c =
+    let t = tests-two (c .before) in
+    let asked = asked-two (c .before) in
+    rw (c .before .enum-told2 .given .1) (no-space _ (traces (start asked) Two) _ _ (packings asked) (small t Two) (rw (← sized-two asked) (c .if5 .taken)))
+
+put-requires-5 : tie.Need-put-requires-5
+put-requires-5 c κs = search needs
+
+put-requires-6 : tie.Need-put-requires-6
+put-requires-6 c κs = search needs
+
+put-requires-7 : tie.Need-put-requires-7
+put-requires-7 c κs = search needs
+
+cast-verdict-bytes-2 : tie.Need-cast-verdict-bytes-2
+cast-verdict-bytes-2 c = search needs
+
+verdict-bytes-requires-2 : tie.Need-verdict-bytes-requires-2
+verdict-bytes-requires-2 c κs = search needs
+
+slice-aggregate-put-3 : tie.Need-slice-aggregate-put-3
+slice-aggregate-put-3 c = search needs
+
+put-requires-8 : tie.Need-put-requires-8
+put-requires-8 c κs = search needs
+
+guard-trailer-bytes-requires : tie.Need-guard-trailer-bytes-requires
+guard-trailer-bytes-requires c κs = search needs
+
+slice-aggregate-put-4 : tie.Need-slice-aggregate-put-4
+slice-aggregate-put-4 c = search needs
+
+put-requires-9 : tie.Need-put-requires-9
+put-requires-9 c κs = search needs
+
 same-length : tie.Need-same-length
 same-length c = search needs
 
-returns-4 : tie.Need-returns-4
-returns-4 c =
+returns-6 : tie.Need-returns-6
+returns-6 c =
     let last = c .before .before in
     let placed = last .before .before .before .before .before .before in
-    let tests = tests-trailer placed in
-    let p = packing-room tests in
-    let s = start tests in
+    let told = room-trailer placed .before in
+    let asked = asked-one told in
+    let s = start asked in
+    let a = s .args in
     let text = last .before .before .trailer-bytes .ensures
-    ∙ trailer-is (s .args .program .now) (s .args .trace .now) (s .args .n) (s .args .verdict) (size p) in
-    put-whole _ _ _ _ (s .args .out .now) (packing p) (small (tests .before)) (left-end (at-trailer placed) (rw text at (last .put4 .ensures)) .1)
+    ∙ trailer-one (a .program .now) (a .ram .now) (a .n) (a .guard .now) (a .m) (a .verdict) (ram-size asked) in
+    rw (told .enum-told .given .1)
+    (put-whole _ (traces s One) _ (a .out .now) (packings asked) (small (tests-one told) One)
+    (left-end (trailer-left-one placed) (rw text at (last .put4 .ensures)) .1))
+
+same-length-2 : tie.Need-same-length-2
+same-length-2 c = search needs
+
+returns-7 : tie.Need-returns-7
+returns-7 c =
+    let last = c .before .before in
+    let placed = last .before .before .before .before .before .before in
+    let told = room-trailer-two placed .before in
+    let asked = asked-two told in
+    let s = start asked in
+    let a = s .args in
+    let text = last .before .before .guard-trailer-bytes .ensures
+    ∙ trailer-two (a .program .now) (a .ram .now) (a .n) (a .guard .now) (a .m) (a .verdict) (ram-size asked) (guard-size asked) in
+    rw (told .enum-told2 .given .1)
+    (put-whole _ (traces s Two) _ (a .out .now) (packings asked) (small (tests-two told) Two)
+    (left-end (trailer-left-two placed) (rw text at (last .put9 .ensures)) .1))
 
 pub fill-spec : {M : Type 1} → statement M
 fill-spec =
@@ -192,13 +367,16 @@ fill-spec =
     (tie.spec
     is-packing-requires
     returns
-    verdict-number-requires
-    cast-if2
+    is-packing-requires-2
     returns-2
+    verdict-number-requires
+    cast-if3
+    returns-3
+    enum-told
     add-second
     add-first
-    add-if3
-    returns-3
+    add-if4
+    returns-4
     put-requires
     put-requires-2
     cast-verdict-bytes
@@ -208,5 +386,23 @@ fill-spec =
     trailer-bytes-requires
     slice-aggregate-put-2
     put-requires-4
+    enum-told-2
+    add-second-2
+    add-second-3
+    add-first-2
+    add-if5
+    returns-5
+    put-requires-5
+    put-requires-6
+    put-requires-7
+    cast-verdict-bytes-2
+    verdict-bytes-requires-2
+    slice-aggregate-put-3
+    put-requires-8
+    guard-trailer-bytes-requires
+    slice-aggregate-put-4
+    put-requires-9
     same-length
-    returns-4)
+    returns-6
+    same-length-2
+    returns-7)

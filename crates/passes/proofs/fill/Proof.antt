@@ -2,6 +2,7 @@
 use mathlib.Core.Path.{refl, sym, ap, _∙_}
 use native.Mathlib.Omega.{arith}
 use lib.ListN.{set}
+use Rattle.codes.specs.{cellCode}
 use Rattle.passes.proofs.PassWays.{put-none, put-some}
 use borrow.Author.Needs.{needs}
 use Rattle.passes.proofs.fill.Statement.{statement}
@@ -25,6 +26,9 @@ returns c =
     let p = put-none (a .table .now) (a .cell) (sym (c .before .outcome .ensures) ∙ c .if1 .taken) in
     (p .0, (refl, omega (arith, p .1)))
 
+cell-requires : tie.Need-cell-requires
+cell-requires c κs = search needs
+
 mul-table : tie.Need-mul-table
 mul-table c = search needs
 
@@ -39,9 +43,10 @@ same-length-2 c = search needs
 
 returns-2 : tie.Need-returns-2
 returns-2 c =
-    let a = c .before .before .before .before .before .args in
-    let p = put-some (a .table .now) (a .cell) (λ e. c .if1 .left (c .before .outcome .ensures ∙ e)) in
-    (ap (set (a .table .now) (a .cell)) (c .before .outcome .ensures) ∙ p .0, (refl, omega (arith, p .1)))
+    let tested = c .before in
+    let a = tested .before .before .before .before .before .args in
+    let p = put-some (a .table .now) (a .cell) (λ e. tested .if1 .left (tested .before .outcome .ensures ∙ e)) in
+    (ap (set (a .table .now) (a .cell)) (c .cell .ensures ∙ ap cellCode (tested .before .outcome .ensures)) ∙ p .0, (refl, omega (arith, p .1)))
 
 pub fill-spec : {M : Type 1} → statement M
 fill-spec =
@@ -52,6 +57,7 @@ fill-spec =
     outcome-requires
     same-length
     returns
+    cell-requires
     mul-table
     slice-write-table
     add-result

@@ -11,11 +11,11 @@ use Rattle.passes.proofs.pass.Statement.{statement}
 use Rattle.passes.proofs.pass.Tie as tie
 
 abbrev Inv-loop : tie.InvT-loop
-Inv-loop words trace functions table₀ n starts count len last stored₀ g₀ table stored g =
-    Covering (setup words functions trace) n starts table₀ table stored g × (g ≤ last)
+Inv-loop words traces functions table₀ n starts count len last stored₀ g₀ table stored g =
+    Covering (setup words functions traces) n starts table₀ table stored g × (g ≤ last)
 
 abbrev μ-loop : tie.MeasureT-loop
-μ-loop words trace functions table₀ n starts count len last stored₀ g₀ table stored g = last - g
+μ-loop words traces functions table₀ n starts count len last stored₀ g₀ table stored g = last - g
 
 -- a function that is visited has its cells within the table
 inside : (c : tie.Then1 Inv-loop μ-loop) → let at = c .before .before .before in

@@ -12,11 +12,11 @@ use Rattle.passes.proofs.pass_function.Statement.{statement}
 use Rattle.passes.proofs.pass_function.Tie as tie
 
 abbrev Inv-loop : tie.InvT-loop
-Inv-loop words trace functions table₀ n g body kinds count others rows width env₀ stored₀ base₀ r₀ table env stored base r =
-    Stepping (setup words functions trace) n g body table₀ table env stored base r
+Inv-loop words traces functions table₀ n g body kinds count others rows width env₀ stored₀ base₀ r₀ table env stored base r =
+    Stepping (setup words functions traces) n g body table₀ table env stored base r
 
 abbrev μ-loop : tie.MeasureT-loop
-μ-loop words trace functions table₀ n g body kinds count others rows width env₀ stored₀ base₀ r₀ table env stored base r = rows - r
+μ-loop words traces functions table₀ n g body kinds count others rows width env₀ stored₀ base₀ r₀ table env stored base r = rows - r
 
 rows-is : (c : tie.After-size Inv-loop μ-loop) → let a = c .before .before .before .before .before .args in
     c .size .result ≡ sizeFrom (kindsOf (a .functions .now) (a .g)) (a .n) 0 (countOf (a .functions .now) (a .g) - 1)
@@ -109,7 +109,7 @@ returns : tie.Need-returns Inv-loop μ-loop
 returns c =
     let begun = c .before .before .before .before .before .before .before .before .before .before in
     let a = begun .args in
-    let S = setup (a .words .now) (a .functions .now) (a .trace .now) in
+    let S = setup (a .words .now) (a .functions .now) (a .traces .now) in
     let few = narrow (c .before .before .before .before .before .before .before) in
     let all = rw (rows-is (c .before .before .before .before .before)) at (c .loop-test .left) in
     let v = stepping-end _ _ _ _ _ (begun .pre) few (c .before .loop .inv) all in

@@ -8,18 +8,23 @@ use native.Mathlib.Omega.{arith}
 use lib.ListN.{length, getD, set}
 use lib.Seq.{set-set}
 use borrow.Author.Needs.{needs}
-use Rattle.passes.specs.Mirror.{setup, firstOf, kindsOf, countOf, envAt, rowWidth, rowLowest, SameOthers}
+use Rattle.codes.specs.declared.Lengths.{Lengths}
+use Rattle.passes.specs.Mirror.{setup, firstOf, kindsOf, countOf, envAt, rowWidth, rowLowest, RowReady, SameOthers}
 use Rattle.passes.proofs.Rows.{width-bound, lowest-bound}
 use Rattle.passes.proofs.PassWays.{Visited, visited-start, visited-length, visited-few, visited-kept, visited-open, visited-end}
 use Rattle.passes.proofs.row.Statement.{statement}
 use Rattle.passes.proofs.row.Tie as tie
 
+-- whatever lengths the row is of: they are worked with no more once its width is known
 abbrev Inv-loop : tie.InvT-loop
-Inv-loop words trace functions table₀ env₀ n g body base kinds count function slot lowest width start stored₀ d₀ table env stored d =
-    Visited (setup words functions trace) n g body base table₀ table stored d × (d ≤ width) × SameOthers slot env₀ env
+Inv-loop words traces functions table₀ env₀ g body base kinds count function slot lowest width start stored₀ d₀ table env stored d =
+    ((n : Lengths) → RowReady functions n g (length table₀) base env₀ → width ≡ rowWidth (kindsOf functions g) n (countOf functions g)
+    → Visited (setup words functions traces) n g body base table₀ table stored d)
+    × (d ≤ width)
+    × SameOthers slot env₀ env
 
 abbrev μ-loop : tie.MeasureT-loop
-μ-loop words trace functions table₀ env₀ n g body base kinds count function slot lowest width start stored₀ d₀ table env stored d = width - d
+μ-loop words traces functions table₀ env₀ g body base kinds count function slot lowest width start stored₀ d₀ table env stored d = width - d
 
 wide-is : (c : tie.After-row-width Inv-loop μ-loop) → let a = c .before .before .before .before .before .before .before .args in
     c .row-width .result ≡ rowWidth (kindsOf (a .functions .now) (a .g)) (a .n) (countOf (a .functions .now) (a .g))
@@ -32,6 +37,12 @@ lowest-is c = rw (c .before .before .before .count .ensures .0) at (c .row-lowes
 slot-is : (c : tie.After-last Inv-loop μ-loop) → let a = c .before .before .before .before .before .args in c .last .result ≡ countOf (a .functions .now) (a .g) - 1
 slot-is c = rw (c .before .before .count .ensures .0) at (c .last .ensures)
 
+visited : (c : tie.At-loop Inv-loop μ-loop) → let a = c .before .before .before .before .before .before .before .before .before .args in
+    Visited (setup (a .words .now) (a .functions .now) (a .traces .now)) (a .n) (a .g) (a .body) (a .base) (a .table .now) (c .loop .table) (c .loop .stored) (c .loop .d)
+visited c =
+    let s = c .before .before .before .before .before .before .before .before .before in
+    c .loop .inv .0 (s .args .n) (s .pre) (wide-is (c .before .before))
+
 -- a configuration's cell, which lies within the table
 place : (c : tie.In-loop Inv-loop μ-loop) → let a = c .before .before .before .before .before .before .before .before .before .before .args in
     getD (a .functions .now) (a .g) 0 + a .base + c .before .loop .d ≡ firstOf (a .functions .now) (a .g) + (a .base + c .before .loop .d)
@@ -41,7 +52,7 @@ within : (c : tie.In-loop Inv-loop μ-loop) → let a = c .before .before .befor
     getD (a .functions .now) (a .g) 0 + a .base + c .before .loop .d < length (c .before .loop .table)
 within c =
     let s = c .before .before .before .before .before .before .before .before .before .before in
-    omega (arith, s .pre .ready .within, s .pre .inside, wide-is (c .before .before .before), visited-length (c .before .loop .inv .0), c .loop-test .taken)
+    omega (arith, s .pre .ready .within, s .pre .inside, wide-is (c .before .before .before), visited-length (visited (c .before)), c .loop-test .taken)
 
 -- the number of the last parameter's value fits
 small : (c : tie.In-loop Inv-loop μ-loop) → c .before .before .before .before .row-lowest .result + c .before .loop .d < 65536
@@ -52,7 +63,7 @@ small c =
     omega (
       arith,
       lowest-is (c .before .before .before .before),
-      lowest-bound kinds 0 count,
+      lowest-bound kinds count,
       wide-is (c .before .before .before),
       width-bound kinds (s .args .n) (s .pre .ready .samples) count,
       c .loop-test .taken,
@@ -60,12 +71,13 @@ small c =
 
 -- the values are those of the configuration
 values-here : (c : tie.In-loop Inv-loop μ-loop) → let a = c .before .before .before .before .before .before .before .before .before .before .args in
-    set (c .before .loop .env) (c .before .before .before .before .before .last .result) (c .before .before .before .before .row-lowest .result + c .before .loop .d)
-    ≡ envAt (a .functions .now) (a .n) (a .g) (a .base + c .before .loop .d)
-values-here c =
-    let s = c .before .before .before .before .before .before .before .before .before .before in
+    (n : Lengths) → RowReady (a .functions .now) n (a .g) (length (a .table .now)) (a .base) (a .env .now)
+    → c .before .before .before .row-width .result ≡ rowWidth (kindsOf (a .functions .now) (a .g)) n (countOf (a .functions .now) (a .g))
+    → set (c .before .loop .env) (c .before .before .before .before .before .last .result) (c .before .before .before .before .row-lowest .result + c .before .loop .d)
+    ≡ envAt (a .functions .now) n (a .g) (a .base + c .before .loop .d)
+values-here c n r w =
     c .before .loop .inv .2 (c .before .before .before .before .row-lowest .result + c .before .loop .d)
-    ∙ rw (slot-is (c .before .before .before .before .before), lowest-is (c .before .before .before .before)) (s .pre .values (c .before .loop .d) (omega (arith, wide-is (c .before .before .before), c .loop-test .taken)))
+    ∙ rw (slot-is (c .before .before .before .before .before), lowest-is (c .before .before .before .before)) (r .values (c .before .loop .d) (omega (arith, w, c .loop-test .taken)))
 
 add-kinds : tie.Need-add-kinds Inv-loop μ-loop
 add-kinds c = search needs
@@ -110,13 +122,13 @@ add-start : tie.Need-add-start Inv-loop μ-loop
 add-start c = omega (arith, c .before .before .before .before .before .before .before .before .pre .ready .within, c .before .before .before .before .before .before .before .before .pre .inside)
 
 loop-holds : tie.Need-loop-holds Inv-loop μ-loop
-loop-holds c = (visited-start _ _ _ _ _ _, omega arith, λ v. refl)
+loop-holds c = (λ n r w. visited-start _ _ _ _ _ _, omega arith, λ v. refl)
 
 add-cell : tie.Need-add-cell Inv-loop μ-loop
-add-cell c = omega (arith, within c, visited-length (c .before .loop .inv .0))
+add-cell c = omega (arith, within c, visited-length (visited (c .before)))
 
 mul-held : tie.Need-mul-held Inv-loop μ-loop
-mul-held c = omega (arith, within c, visited-length (c .before .loop .inv .0))
+mul-held c = omega (arith, within c, visited-length (visited (c .before)))
 
 slice-read-held : tie.Need-slice-read-held Inv-loop μ-loop
 slice-read-held c = within (c .before)
@@ -131,7 +143,7 @@ cast-fill : tie.Need-cast-fill Inv-loop μ-loop
 cast-fill c = omega (arith, small (c .before .before .before .before .before))
 
 fill-requires : tie.Need-fill-requires Inv-loop μ-loop
-fill-requires c κs = (omega (arith, slot-is (c .before .before .before .before .before .before .before .before .before .before), c .before .before .before .before .before .before .before .before .before .before .before .before .count .ensures .1, c .before .before .before .before .before .before .before .before .before .before .before .before .count .ensures .0), within (c .before .before .before .before .before), omega (arith, visited-few (c .before .before .before .before .before .before .loop .inv .0), small (c .before .before .before .before .before)))
+fill-requires c κs = (omega (arith, slot-is (c .before .before .before .before .before .before .before .before .before .before), c .before .before .before .before .before .before .before .before .before .before .before .before .count .ensures .1, c .before .before .before .before .before .before .before .before .before .before .before .before .count .ensures .0), within (c .before .before .before .before .before), omega (arith, visited-few (visited (c .before .before .before .before .before .before)), small (c .before .before .before .before .before)))
 
 add-d : tie.Need-add-d Inv-loop μ-loop
 add-d c = omega (arith, small (c .before .before .before))
@@ -144,11 +156,11 @@ loop-again c =
     let inside = c .before .before .before in
     let inv = inside .before .loop .inv in
     let slot = c .before .before .before .before .before .before .before .before .last .result in (
-      ⊎-elim
+      λ n r e. ⊎-elim
           (λ w. rw (w .6)
           (rw (w .8)
-          (visited-open (inv .0) (place inside) (c .before .held .ensures) (w .0 .taken) (values-here inside) (w .3 .ensures .0) (w .3 .ensures .1 .1))))
-          (λ w. rw (w .1) (rw (w .3) (visited-kept (inv .0) (place inside) (c .before .held .ensures) (w .0 .left))))
+          (visited-open (inv .0 n r e) (place inside) (c .before .held .ensures) (w .0 .taken) (values-here inside n r e) (w .3 .ensures .0) (w .3 .ensures .1 .1))))
+          (λ w. rw (w .1) (rw (w .3) (visited-kept (inv .0 n r e) (place inside) (c .before .held .ensures) (w .0 .left))))
           (c .if1 .came),
       omega (arith, inside .loop-test .taken),
       λ v. ⊎-elim
@@ -158,12 +170,12 @@ loop-again c =
     )
 
 same-length : tie.Need-same-length Inv-loop μ-loop
-same-length c = visited-length (c .before .loop .inv .0)
+same-length c = visited-length (visited (c .before))
 
 returns : tie.Need-returns Inv-loop μ-loop
 returns c =
     let wide = wide-is (c .before .before .before) in
-    let v = visited-end (c .before .loop .inv .0) (c .before .loop .inv .1) (c .loop-test .left) wide in
+    let v = visited-end (visited (c .before)) (c .before .loop .inv .1) (c .loop-test .left) wide in
     (v .0, (rw (slot-is (c .before .before .before .before .before)) at (c .before .loop .inv .2), v .1))
 
 pub row-spec : {M : Type 1} → statement M

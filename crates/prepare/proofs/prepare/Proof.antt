@@ -1,26 +1,38 @@
 -- `prepare` meets its contract: each check in its order, and what a passed one leaves.
-use mathlib.Core.Path.{sym, ap, _∙_}
+use mathlib.Core.Path.{sym, _∙_}
+use mathlib.Core.Bool.{_||_}
 use native.Mathlib.Omega.{arith}
-use lib.ListN.{length}
 use Rattle.refusal.proofs.Numbers.{refused}
 use Rattle.semantics.specs.Language.{Program}
-use Rattle.rule.specs.declared.Outline.{Outline}
+use Rattle.semantics.specs.Handed.{Handed, handed}
+use Rattle.rule.specs.declared.Sorts.the-variants.{Only}
 use Rattle.rule.specs.Form.{Accepted}
-use Rattle.rule.proofs.Programs.{passed-accepted}
-use Rattle.passes.specs.Mirror.{functionsOf, totalOf}
-use Rattle.prepare.proofs.Preparing.{program-refused, length-refused, rest-left, length-passed, total-is, settled}
+use Rattle.rule.proofs.Programs.{passed-accepted, takes-only}
+use Rattle.prepare.proofs.Preparing.{program-refused, length-refused, rest-left, Long, lengths-passed, total-is, settled}
 use borrow.Author.Needs.{needs}
 use Rattle.prepare.proofs.prepare.Statement.{statement}
 use Rattle.prepare.proofs.prepare.Tie as tie
 
--- a program that passes the check is accepted
-accepted : (c : tie.After-enum-told) → (P : Program) × Accepted (c .before .before .before .before .before .before .args .program .now) P
-accepted c =
-    passed-accepted _ (λ i. omega (arith, c .before .before .before .before .before .shared-slice-known .given i))
-    (sym (c .before .before .before .check-program .ensures .0) ∙ c .enum-told .given .1)
+-- the traces handed in
+abbrev handedAt : tie.Start → Handed
+handedAt c = handed (c .args .sort) (c .args .ram .now) (c .args .n) (c .args .guard .now) (c .args .m)
 
-check-program-requires : tie.Need-check-program-requires
-check-program-requires c κs = search needs
+-- a program that passes the check is accepted
+accepted : (c : tie.After-enum-told) → (P : Program)
+    × Accepted (c .before .before .before .before .before .before .before .args .program .now) (c .before .before .before .before .before .before .before .args .sort) P
+accepted c =
+    let start = c .before .before .before .before .before .before .before in
+    let bytes = start .args .program .now in
+    let judged = c .before .before .before .check-sorts .ensures .0 in
+    let w = passed-accepted (Only (start .args .sort)) bytes (λ i. omega (arith, c .before .before .before .before .before .before .shared-slice-known .given i)) (sym judged ∙ c .enum-told .given .1) in
+    (w .0, rw (takes-only (start .args .sort) _ (w .2)) at (w .1))
+
+-- lengths that pass the check are those of traces
+long : (c : tie.After-guards) → Long (handedAt (c .before .before .before .before .before .before .before .before .before .before .before .before .before))
+long c = lengths-passed (handedAt (c .before .before .before .before .before .before .before .before .before .before .before .before .before)) (c .before .before .before .before .before .lengths-check .ensures) (c .before .before .before .enum-told2 .given .1)
+
+check-sorts-requires : tie.Need-check-sorts-requires
+check-sorts-requires c κs = search needs
 
 enum-known-check : tie.Need-enum-known-check
 enum-known-check c = search needs
@@ -31,8 +43,8 @@ refused-requires c κs = search needs
 enum-told : tie.Need-enum-told
 enum-told c = search needs
 
-length-check-requires : tie.Need-length-check-requires
-length-check-requires c κs = search needs
+lengths-check-requires : tie.Need-lengths-check-requires
+lengths-check-requires c κs = search needs
 
 enum-known-refusal : tie.Need-enum-known-refusal
 enum-known-refusal c = search needs
@@ -43,14 +55,11 @@ refused-requires-2 c κs = search needs
 enum-told-2 : tie.Need-enum-told-2
 enum-told-2 c = search needs
 
-cast-cells-of : tie.Need-cast-cells-of
-cast-cells-of c =
-    let a = c .before .before .before .before .before .before .before .before .before .before .before .before .before .args in
-    omega (
-      arith,
-      length-passed (a .n) (length (a .trace .now)) (c .before .before .before .before .before .before .length-check .ensures)
-          (c .before .before .before .before .enum-told2 .given .1) .0,
-    )
+cast-t24 : tie.Need-cast-t24
+cast-t24 c = omega (arith, long c .few .0)
+
+cast-t25 : tie.Need-cast-t25
+cast-t25 c = omega (arith, long c .few .1)
 
 cells-of-requires : tie.Need-cells-of-requires
 cells-of-requires c κs = search needs
@@ -58,53 +67,54 @@ cells-of-requires c κs = search needs
 padding-set-requires : tie.Need-padding-set-requires
 padding-set-requires c κs = search needs
 
+padding-set-requires-2 : tie.Need-padding-set-requires-2
+padding-set-requires-2 c κs = search needs
+
 padding-then-table-requires : tie.Need-padding-then-table-requires
 padding-then-table-requires c κs = search needs
 
 returns : tie.Need-returns
 returns c =
-    let a = c .before .before .before .before .before .before .before .before .args in
-    let all = program-refused (a .program .now) (a .trace .now) (a .n) (a .lent)
-    (c .before .before .before .before .before .check-program .ensures .0) (c .before .before .check .given .1) in
-    let told = sym (c .before .before .before .before .before .check-program .ensures .0) ∙ c .before .before .check .given .1 in
-    let none = c .refused .ensures in (
-      none .0 ∙ sym all,
-      (λ e. absurd (refused (sym (none .0) ∙ e)), (none .1 ∙ c .before .before .before .before .before .check-program .ensures .1, (none .2 ∙ rw told, none .3 ∙ rw told))),
-    )
+    let start = c .before .before .before .before .before .before .before .before .before in
+    let judged = c .before .before .before .before .before .check-sorts .ensures in
+    let known = c .before .before .check .given .1 in
+    let all = program-refused (start .args .program .now) (handedAt start) (start .args .lent) (judged .0) known in
+    let told = sym (judged .0) ∙ known in
+    let none = c .refused .ensures in
+    (none .0 ∙ sym all, (λ e. absurd (refused (sym (none .0) ∙ e)), (none .1 ∙ judged .1, (none .2 ∙ rw told, none .3 ∙ rw told))))
 
 returns-2 : tie.Need-returns-2
 returns-2 c =
-    let a = c .before .before .before .before .before .before .before .before .before .before .before .args in
-    let all = length-refused (a .program .now) (a .trace .now) (a .n) (a .lent) (accepted (c .before .before .before .before .before) .1)
-    (c .before .before .before .before .length-check .ensures) (c .before .before .refusal .given .1) in
-    let judged = c .before .before .before .before .before .before .before .before .check-program .ensures in
+    let start = c .before .before .before .before .before .before .before .before .before .before .before .before in
+    let judged = c .before .before .before .before .before .before .before .before .check-sorts .ensures in
+    let lengths = c .before .before .before .before .lengths-check .ensures in
+    let known = c .before .before .refusal .given .1 in
+    let all = length-refused (start .args .program .now) (handedAt start) (start .args .lent) (accepted (c .before .before .before .before .before) .1) lengths known in
     let passed = sym (judged .0) ∙ c .before .before .before .before .before .enum-told .given .1 in
-    let told = sym (c .before .before .before .before .length-check .ensures) ∙ c .before .before .refusal .given .1 in
+    let told = sym lengths ∙ known in
     let none = c .refused2 .ensures in
     (none .0 ∙ sym all, (λ e. absurd (refused (sym (none .0) ∙ e)), (none .1 ∙ judged .1, (none .2 ∙ rw (passed, told), none .3 ∙ rw (passed, told)))))
 
 returns-3 : tie.Need-returns-3
 returns-3 c =
-    let a = c .before .before .before .before .before .before .before .before .before .before .before .before .before .before .before .before .args in
-    let program = accepted (c .before .before .before .before .before .before .before .before .before .before) .1 in
-    let outline = c .before .before .before .before .before .before .before .before .before .before .before .before .before .check-program .ensures .1 in
-    let trace = c .before .before .before .before .before .before .before .before .before .length-check .ensures in
-    let passed = c .before .before .before .before .before .before .before .enum-told2 .given .1 in
-    let few = length-passed _ _ trace passed .0 in
-    let places = c .before .before .cells-of .ensures in
-    let total = total-is program outline (a .n) few (places .0) (places .1) (a .trace .now) in
-    let judged = sym (c .before .before .before .before .before .before .before .before .before .before .before .before .before .check-program .ensures .0) ∙ c .before .before .before .before .before .before .before .before .before .before .enum-told .given .1 in
-    let told = sym trace ∙ passed in (
-      c .padding-then-table .ensures ∙ sym (rest-left (a .program .now) (a .trace .now) (a .n) (a .lent) program trace passed (c .before .padding-set .ensures) total),
+    let start = c .before .before .before .before .before .before .before .before .before .before .before .before .before .before .before .before .before .before .before .before in
+    let h = handedAt start in
+    let program = accepted (c .before .before .before .before .before .before .before .before .before .before .before .before .before) .1 in
+    let judged = c .before .before .before .before .before .before .before .before .before .before .before .before .before .before .before .before .check-sorts .ensures in
+    let lengths = c .before .before .before .before .before .before .before .before .before .before .before .before .lengths-check .ensures in
+    let known = c .before .before .before .before .before .before .before .before .before .before .enum-told2 .given .1 in
+    let fit = long (c .before .before .before .before .before .before .before) in
+    let places = c .before .before .before .cells-of .ensures in
+    let total = total-is h program (judged .1) fit (places .0) (places .1) in
+    let ram = c .before .before .padding-set in
+    let guard = c .before .padding-set2 in
+    let passed = sym (judged .0) ∙ c .before .before .before .before .before .before .before .before .before .before .before .before .before .enum-told .given .1 in
+    let told = sym lengths ∙ known in
+    let last = c .padding-then-table .ensures in (
+      last ∙ sym (rest-left (start .args .program .now) h (start .args .lent) program lengths known (ram .ensures) (guard .ensures) total),
       (
-        λ e. settled program outline (a .n) few (places .0) (places .1) (a .trace .now) (a .lent) (c .before .padding-set .result) trace passed (c .padding-then-table .ensures) e,
-        (
-          outline,
-          (
-            rw (judged, told) (places .0 ∙ ap (λ (o : Outline). functionsOf (o .kinds) (o .params) (a .n) (o .functions)) outline),
-            rw (judged, told) (places .1 ∙ ap (λ (o : Outline). totalOf (o .kinds) (o .params) (a .n) (o .functions)) outline),
-          ),
-        ),
+        λ e. settled h program (judged .1) fit (places .0) (places .1) (start .args .lent) (ram .result || guard .result) last e,
+        (judged .1, (rw (passed, told) (places .0), rw (passed, told) (places .1))),
       ),
     )
 
@@ -112,17 +122,19 @@ pub prepare-spec : {M : Type 1} → statement M
 prepare-spec =
     tie.close
     (tie.spec
-    check-program-requires
+    check-sorts-requires
     enum-known-check
     refused-requires
     enum-told
-    length-check-requires
+    lengths-check-requires
     enum-known-refusal
     refused-requires-2
     enum-told-2
-    cast-cells-of
+    cast-t24
+    cast-t25
     cells-of-requires
     padding-set-requires
+    padding-set-requires-2
     padding-then-table-requires
     returns
     returns-2

@@ -1,7 +1,7 @@
 -- `read` meets its contract: the trailer, then the program.
 use mathlib.Core.Path.{sym, _∙_}
-use Rattle.record.proofs.Answers.{located-refused, program-refused, program-passed, read-owed}
 use borrow.Author.Needs.{needs}
+use Rattle.record.proofs.Answers.{located-refused, program-refused, program-passed, read-owed}
 use Rattle.record.proofs.read.Statement.{statement}
 use Rattle.record.proofs.read.Tie as tie
 
@@ -17,8 +17,11 @@ enum-known-parts c = search needs
 part-requires : tie.Need-part-requires
 part-requires c κs = search needs
 
-check-program-requires : tie.Need-check-program-requires
-check-program-requires c κs = search needs
+sort-of-requires : tie.Need-sort-of-requires
+sort-of-requires c κs = search needs
+
+check-sorts-requires : tie.Need-check-sorts-requires
+check-sorts-requires c κs = search needs
 
 enum-known-check : tie.Need-enum-known-check
 enum-known-check c = search needs
@@ -32,16 +35,16 @@ returns c = read-owed _ (located-refused _ (c .before .before .before .locate .e
 returns-2 : tie.Need-returns-2
 returns-2 c =
     let told = c .before .before .before in
-    read-owed _ (program-refused _ (told .before .before .before .before .before .before .locate .ensures)
-    (told .before .before .before .before .parts .given .1)
-    (rw (told .before .part .ensures) at (sym (told .check-program .ensures .0) ∙ c .before .check .given .1)))
+    let found = told .before .before .before .before .before in
+    read-owed _ (program-refused _ (found .before .before .locate .ensures) (found .parts .given .1)
+    (rw (told .before .before .part .ensures, told .before .sort-of .ensures) at (sym (told .check-sorts .ensures .0) ∙ c .before .check .given .1)))
 
 returns-3 : tie.Need-returns-3
 returns-3 c =
     let told = c .before .before in
-    read-owed _ (program-passed _ (told .before .before .before .before .before .before .locate .ensures)
-    (told .before .before .before .before .parts .given .1)
-    (rw (told .before .part .ensures) at (sym (told .check-program .ensures .0) ∙ c .enum-told .given .1)))
+    let found = told .before .before .before .before .before in
+    read-owed _ (program-passed _ (found .before .before .locate .ensures) (found .parts .given .1)
+    (rw (told .before .before .part .ensures, told .before .sort-of .ensures) at (sym (told .check-sorts .ensures .0) ∙ c .enum-told .given .1)))
 
 pub read-spec : {M : Type 1} → statement M
 read-spec =
@@ -51,7 +54,8 @@ read-spec =
     enum-known-refusal
     enum-known-parts
     part-requires
-    check-program-requires
+    sort-of-requires
+    check-sorts-requires
     enum-known-check
     enum-told
     returns

@@ -4,8 +4,8 @@ use borrow.Author.Needs.{needs}
 use Rattle.record.proofs.refused_by.Statement.{statement}
 use Rattle.record.proofs.refused_by.Tie as tie
 
-check-program-requires : tie.Need-check-program-requires
-check-program-requires c κs = search needs
+check-sorts-requires : tie.Need-check-sorts-requires
+check-sorts-requires c κs = search needs
 
 enum-told : tie.Need-enum-told
 enum-told c = search needs
@@ -17,12 +17,12 @@ enum-told-2 : tie.Need-enum-told-2
 enum-told-2 c = search needs
 
 returns : tie.Need-returns
-returns c = c .refused .ensures ∙ sym (rw (sym (c .before .before .before .check-program .ensures .0) ∙ c .before .enum-told .given .1))
+returns c = c .refused .ensures ∙ sym (rw (sym (c .before .before .before .check-sorts .ensures .0) ∙ c .before .enum-told .given .1))
 
 returns-2 : tie.Need-returns-2
-returns-2 c = rw (sym (c .before .before .check-program .ensures .0) ∙ c .enum-told2 .given .1)
+returns-2 c = rw (sym (c .before .before .check-sorts .ensures .0) ∙ c .enum-told2 .given .1)
 
 pub refused-by-spec : {M : Type 1} → statement M
 refused-by-spec =
     tie.close
-    (tie.spec check-program-requires enum-told refused-requires enum-told-2 returns returns-2)
+    (tie.spec check-sorts-requires enum-told refused-requires enum-told-2 returns returns-2)

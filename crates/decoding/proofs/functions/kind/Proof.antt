@@ -1,16 +1,10 @@
 -- `kind` meets its contract: the parts fit into their bits.
-use mathlib.Core.Bool.{Bool, true, false}
-use Prim.Native.Nat.{_≤_}
 use native.Mathlib.Omega.{arith}
-use Rattle.codes.specs.{lowestCode}
 use Rattle.decoding.specs.Words.{kindWord}
+use Rattle.decoding.proofs.Packing.{lowest-small}
 use borrow.Author.Needs.{needs}
 use Rattle.decoding.proofs.functions.kind.Statement.{statement}
 use Rattle.decoding.proofs.functions.kind.Tie as tie
-
-lowest-small : (list : Bool) → lowestCode list ≤ 5
-lowest-small true = omega arith
-lowest-small false = omega arith
 
 radix-requires : tie.Need-radix-requires
 radix-requires c κs = search needs
@@ -19,10 +13,10 @@ lowest-requires : tie.Need-lowest-requires
 lowest-requires c κs = search needs
 
 mul-result : tie.Need-mul-result
-mul-result c = omega (arith, c .lowest .ensures, lowest-small (c .before .before .args .list))
+mul-result c = omega (arith, c .lowest .ensures, lowest-small (c .before .before .args .kind))
 
 add-result : tie.Need-add-result
-add-result c = omega (arith, c .lowest .ensures, lowest-small (c .before .before .args .list))
+add-result c = omega (arith, c .lowest .ensures, lowest-small (c .before .before .args .kind))
 
 returns : tie.Need-returns
 unfolding kindWord

@@ -8,7 +8,6 @@ use lib.Dec.{eqb}
 use borrow.Author.Tests.{eq-eqb, ne-eqb}
 use Rattle.decoding.specs.Words.{callSort, callOneSort}
 use Rattle.decoding.specs.Decoding.{placed, calledBy}
-use borrow.Author.Tests.{eq-eqb, ne-eqb}
 use borrow.Author.Needs.{needs}
 use Rattle.decoding.proofs.program.call.Statement.{statement}
 use Rattle.decoding.proofs.program.call.Tie as tie

@@ -23,6 +23,12 @@ enum-told-3 c = search needs
 constant-requires-3 : tie.Need-constant-requires-3
 constant-requires-3 c κs = search needs
 
+enum-told-4 : tie.Need-enum-told-4
+enum-told-4 c = search needs
+
+constant-requires-4 : tie.Need-constant-requires-4
+constant-requires-4 c κs = search needs
+
 enum-known-node : tie.Need-enum-known-node
 enum-known-node c = search needs
 
@@ -32,26 +38,26 @@ cast-node c = search needs
 node-requires : tie.Need-node-requires
 node-requires c κs = search needs
 
-enum-told-4 : tie.Need-enum-told-4
-enum-told-4 c = search needs
+enum-told-5 : tie.Need-enum-told-5
+enum-told-5 c = search needs
 
 unary-requires : tie.Need-unary-requires
 unary-requires c κs = search needs
 
-enum-told-5 : tie.Need-enum-told-5
-enum-told-5 c = search needs
+enum-told-6 : tie.Need-enum-told-6
+enum-told-6 c = search needs
 
 unary-requires-2 : tie.Need-unary-requires-2
 unary-requires-2 c κs = search needs
 
-enum-told-6 : tie.Need-enum-told-6
-enum-told-6 c = search needs
+enum-told-7 : tie.Need-enum-told-7
+enum-told-7 c = search needs
 
 unary-requires-3 : tie.Need-unary-requires-3
 unary-requires-3 c κs = search needs
 
-enum-told-7 : tie.Need-enum-told-7
-enum-told-7 c = search needs
+enum-told-8 : tie.Need-enum-told-8
+enum-told-8 c = search needs
 
 conditional-requires : tie.Need-conditional-requires
 conditional-requires c κs = search needs
@@ -62,11 +68,11 @@ param-requires c κs = search needs
 with-operands-requires : tie.Need-with-operands-requires
 with-operands-requires c κs = search needs
 
-enum-told-8 : tie.Need-enum-told-8
-enum-told-8 c = search needs
+enum-told-9 : tie.Need-enum-told-9
+enum-told-9 c = search needs
 
-constant-requires-4 : tie.Need-constant-requires-4
-constant-requires-4 c κs = search needs
+constant-requires-5 : tie.Need-constant-requires-5
+constant-requires-5 c κs = search needs
 
 enum-known-node-2 : tie.Need-enum-known-node-2
 enum-known-node-2 c = search needs
@@ -74,11 +80,11 @@ enum-known-node-2 c = search needs
 call-requires : tie.Need-call-requires
 call-requires c κs = search needs
 
-enum-told-9 : tie.Need-enum-told-9
-enum-told-9 c = search needs
+enum-told-10 : tie.Need-enum-told-10
+enum-told-10 c = search needs
 
-constant-requires-5 : tie.Need-constant-requires-5
-constant-requires-5 c κs = search needs
+constant-requires-6 : tie.Need-constant-requires-6
+constant-requires-6 c κs = search needs
 
 returns : tie.Need-returns
 returns c = c .constant .ensures ∙ sym (ap (decodedBy _ _ _ _) (c .before .enum-told .given .1))
@@ -90,30 +96,33 @@ returns-3 : tie.Need-returns-3
 returns-3 c = c .constant3 .ensures ∙ sym (ap (decodedBy _ _ _ _) (c .before .enum-told3 .given .1))
 
 returns-4 : tie.Need-returns-4
-returns-4 c = c .node2 .ensures ∙ sym (ap (decodedBy _ _ _ _) (c .before .before .node .given .1))
+returns-4 c = c .constant4 .ensures ∙ sym (ap (decodedBy _ _ _ _) (c .before .enum-told4 .given .1))
 
 returns-5 : tie.Need-returns-5
-returns-5 c = c .unary .ensures ∙ sym (ap (decodedBy _ _ _ _) (c .before .enum-told4 .given .1))
+returns-5 c = c .node2 .ensures ∙ sym (ap (decodedBy _ _ _ _) (c .before .before .node .given .1))
 
 returns-6 : tie.Need-returns-6
-returns-6 c = c .unary2 .ensures ∙ sym (ap (decodedBy _ _ _ _) (c .before .enum-told5 .given .1))
+returns-6 c = c .unary .ensures ∙ sym (ap (decodedBy _ _ _ _) (c .before .enum-told5 .given .1))
 
 returns-7 : tie.Need-returns-7
-returns-7 c = c .unary3 .ensures ∙ sym (ap (decodedBy _ _ _ _) (c .before .enum-told6 .given .1))
+returns-7 c = c .unary2 .ensures ∙ sym (ap (decodedBy _ _ _ _) (c .before .enum-told6 .given .1))
 
 returns-8 : tie.Need-returns-8
-returns-8 c =
-    (rw (c .before .param .ensures, c .before .before .conditional .ensures) at (c .with-operands .ensures))
-    ∙ sym (ap (decodedBy _ _ _ _) (c .before .before .before .enum-told7 .given .1))
+returns-8 c = c .unary3 .ensures ∙ sym (ap (decodedBy _ _ _ _) (c .before .enum-told7 .given .1))
 
 returns-9 : tie.Need-returns-9
-returns-9 c = c .constant4 .ensures ∙ sym (ap (decodedBy _ _ _ _) (c .before .enum-told8 .given .1))
+returns-9 c =
+    (rw (c .before .param .ensures, c .before .before .conditional .ensures) at (c .with-operands .ensures))
+    ∙ sym (ap (decodedBy _ _ _ _) (c .before .before .before .enum-told8 .given .1))
 
 returns-10 : tie.Need-returns-10
-returns-10 c = c .call .ensures ∙ sym (ap (decodedBy _ _ _ _) (c .before .before .node3 .given .1))
+returns-10 c = c .constant5 .ensures ∙ sym (ap (decodedBy _ _ _ _) (c .before .enum-told9 .given .1))
 
 returns-11 : tie.Need-returns-11
-returns-11 c = c .constant5 .ensures ∙ sym (ap (decodedBy _ _ _ _) (c .before .enum-told9 .given .1))
+returns-11 c = c .call .ensures ∙ sym (ap (decodedBy _ _ _ _) (c .before .before .node3 .given .1))
+
+returns-12 : tie.Need-returns-12
+returns-12 c = c .constant6 .ensures ∙ sym (ap (decodedBy _ _ _ _) (c .before .enum-told10 .given .1))
 
 pub decoded-spec : {M : Type 1} → statement M
 decoded-spec =
@@ -125,25 +134,27 @@ decoded-spec =
     constant-requires-2
     enum-told-3
     constant-requires-3
+    enum-told-4
+    constant-requires-4
     enum-known-node
     cast-node
     node-requires
-    enum-told-4
-    unary-requires
     enum-told-5
-    unary-requires-2
+    unary-requires
     enum-told-6
-    unary-requires-3
+    unary-requires-2
     enum-told-7
+    unary-requires-3
+    enum-told-8
     conditional-requires
     param-requires
     with-operands-requires
-    enum-told-8
-    constant-requires-4
-    enum-known-node-2
-    call-requires
     enum-told-9
     constant-requires-5
+    enum-known-node-2
+    call-requires
+    enum-told-10
+    constant-requires-6
     returns
     returns-2
     returns-3
@@ -154,4 +165,5 @@ decoded-spec =
     returns-8
     returns-9
     returns-10
-    returns-11)
+    returns-11
+    returns-12)

@@ -1,7 +1,7 @@
 -- `operands` meets its contract, by the kinds of nodes.
 use mathlib.Core.Path.{sym, ap, _∙_}
-use borrow.Author.Needs.{needs}
 use Rattle.decoding.specs.Decoding.{operandsOf}
+use borrow.Author.Needs.{needs}
 use Rattle.decoding.proofs.program.operands.Statement.{statement}
 use Rattle.decoding.proofs.program.operands.Tie as tie
 
@@ -32,14 +32,17 @@ enum-told-8 c = search needs
 enum-told-9 : tie.Need-enum-told-9
 enum-told-9 c = search needs
 
+enum-told-10 : tie.Need-enum-told-10
+enum-told-10 c = search needs
+
 enum-known-node : tie.Need-enum-known-node
 enum-known-node c = search needs
 
 arguments-requires : tie.Need-arguments-requires
 arguments-requires c κs = search needs
 
-enum-told-10 : tie.Need-enum-told-10
-enum-told-10 c = search needs
+enum-told-11 : tie.Need-enum-told-11
+enum-told-11 c = search needs
 
 returns : tie.Need-returns
 returns c = search needs
@@ -69,10 +72,13 @@ returns-9 : tie.Need-returns-9
 returns-9 c = search needs
 
 returns-10 : tie.Need-returns-10
-returns-10 c = c .arguments .ensures .0 ∙ sym (ap (operandsOf _) (c .before .before .node .given .1))
+returns-10 c = search needs
 
 returns-11 : tie.Need-returns-11
-returns-11 c = search needs
+returns-11 c = c .arguments .ensures .0 ∙ sym (ap (operandsOf _) (c .before .before .node .given .1))
+
+returns-12 : tie.Need-returns-12
+returns-12 c = search needs
 
 pub operands-spec : {M : Type 1} → statement M
 operands-spec =
@@ -87,9 +93,10 @@ operands-spec =
     enum-told-7
     enum-told-8
     enum-told-9
+    enum-told-10
     enum-known-node
     arguments-requires
-    enum-told-10
+    enum-told-11
     returns
     returns-2
     returns-3
@@ -100,4 +107,5 @@ operands-spec =
     returns-8
     returns-9
     returns-10
-    returns-11)
+    returns-11
+    returns-12)

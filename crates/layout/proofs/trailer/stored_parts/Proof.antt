@@ -1,41 +1,79 @@
--- `stored_parts` meets its contract: its tests are those of 23 and of 4, in this order.
-use mathlib.Core.Path.{_≡_, sym, ap, _∙_}
-use mathlib.Core.Bool.{false}
+-- `stored_parts` meets its contract: its tests are those of 23, of either trace, and of 4, in this order.
+use mathlib.Core.Path.{_≡_, sym, _∙_}
+use mathlib.Core.Bool.{Bool, false, _||_}
 use mathlib.Core.List.{List}
-use Prim.Native.Nat.{ℕ, _-_}
-use lib.Dec.{ltb}
-use lib.ListN.{getD}
+use Prim.Native.Nat.{ℕ, _+_, _-_}
+use native.Mathlib.Omega.{arith}
+use borrow.Author.Needs.{needs}
 use borrow.Author.Tests.{lt-ltb, le-ltb, eq-eqb, ne-eqb}
-use Rattle.trace.specs.{paddingSet}
-use Rattle.layout.specs.declared.Span.{Span}
-use Rattle.layout.specs.Form.{resultBytes, afterTrace, mostVerdict}
+use Rattle.trace.specs.{bytesFor, paddingSet}
 use Rattle.layout.specs.Trailer.{partOf, span}
 use Rattle.layout.specs.Steps.{partsStored}
-use borrow.Author.Needs.{needs}
 use Rattle.layout.proofs.trailer.stored_parts.Statement.{statement}
 use Rattle.layout.proofs.trailer.stored_parts.Tie as tie
 
--- where the trace stands
-abbrev traceOf : tie.Start → Span
-traceOf s = let a = s .args in span (a .at - a .second) (a .second - afterTrace (a .format))
+-- ---- What was asked of the traces' bytes
 
-abbrev start : tie.After-padding-set → tie.Start
-start c = c .before .before .before .before
+asked : (bytes : List ℕ) (at n : ℕ) {k : ℕ} {r : Bool} → k ≡ bytesFor n → r ≡ paddingSet (partOf bytes (span at k)) n
+    → paddingSet (partOf bytes (span at (bytesFor n))) n ≡ r
+asked bytes at n e t = rw (← e) (sym t)
 
--- what was asked of the trace's bytes
-told : (c : tie.After-padding-set) → let a = start c .args in
-    paddingSet (partOf (a .bytes .now) (traceOf (start c))) (a .n) ≡ c .padding-set .result
-told c =
-    let a = start c .args in
-    let size = c .before .before .after-trace .ensures in
-    let there = c .before .part .ensures ∙ ap (λ (k : ℕ). partOf (a .bytes .now) (span (a .at - a .second) (a .second - k))) size in
-    sym (c .padding-set .ensures ∙ ap (λ (l : List ℕ). paddingSet l (a .n)) there)
+abbrev start : tie.After-padding-in2 → tie.Start
+start c = c .before .before .before .before .before .before
 
--- what the first two tests left
-judged : (c : tie.Else2) → let s = start (c .before .before .before .before .before) in
-    (paddingSet (partOf (s .args .bytes .now) (traceOf s)) (s .args .n) ≡ false)
-    × (ltb mostVerdict (getD (s .args .bytes .now) (s .args .at - resultBytes) 0) ≡ false)
-judged c = (told (c .before .before .before .before .before) ∙ c .before .if1 .left, le-ltb _ _ (c .if2 .left))
+ram-told : (c : tie.After-padding-in2) → let a = start c .args in
+    paddingSet (partOf (a .bytes .now) (span (a .at - a .second) (bytesFor (a .n)))) (a .n) ≡ c .before .padding-in .result
+ram-told c = let a = start c .args in
+    asked (a .bytes .now) (a .at - a .second) (a .n) (c .before .before .before .before .bytes-for .ensures) (c .before .padding-in .ensures)
+
+guard-told : (c : tie.After-padding-in2) → let a = start c .args in
+    paddingSet (partOf (a .bytes .now) (span (a .at - a .second + bytesFor (a .n)) (bytesFor (a .m)))) (a .m) ≡ c .padding-in2 .result
+guard-told c = let a = start c .args in
+    asked (a .bytes .now) (a .at - a .second + bytesFor (a .n)) (a .m) (c .before .before .bytes-for3 .ensures)
+    (rw (c .before .before .before .bytes-for2 .ensures) at (c .padding-in2 .ensures))
+
+abbrev answered : tie.After-thirty-two → tie.After-padding-in2
+answered c = c .before .before .before .before .before
+
+-- neither trace has a bit set above its last sample
+clean : (c : tie.Else2) → let a = start (answered (c .before .before)) .args in
+    (paddingSet (partOf (a .bytes .now) (span (a .at - a .second) (bytesFor (a .n)))) (a .n)
+    || paddingSet (partOf (a .bytes .now) (span (a .at - a .second + bytesFor (a .n)) (bytesFor (a .m)))) (a .m)) ≡ false
+clean c =
+    let judged = answered (c .before .before) in
+    rw (ram-told judged ∙ c .before .if1 .left, guard-told judged ∙ c .if2 .left)
+
+-- ---- The needs
+
+sub-t17 : tie.Need-sub-t17
+sub-t17 c = search needs
+
+bytes-for-requires : tie.Need-bytes-for-requires
+bytes-for-requires c κs = search needs
+
+sub-t17-2 : tie.Need-sub-t17-2
+sub-t17-2 c = search needs
+
+bytes-for-requires-2 : tie.Need-bytes-for-requires-2
+bytes-for-requires-2 c κs = search needs
+
+add-t20 : tie.Need-add-t20
+unfolding bytesFor
+add-t20 c =
+    let s = c .before .before .before in
+    omega (arith, c .bytes-for2 .ensures, s .fits .n, s .pre .trailer, s .good .0 .1)
+
+bytes-for-requires-3 : tie.Need-bytes-for-requires-3
+bytes-for-requires-3 c κs = search needs
+
+padding-in-requires : tie.Need-padding-in-requires
+padding-in-requires c κs = search needs
+
+padding-in-requires-2 : tie.Need-padding-in-requires-2
+padding-in-requires-2 c κs = search needs
+
+guard-place-requires : tie.Need-guard-place-requires
+guard-place-requires c κs = search needs
 
 after-trace-requires : tie.Need-after-trace-requires
 after-trace-requires c κs = search needs
@@ -43,23 +81,11 @@ after-trace-requires c κs = search needs
 sub-label-place : tie.Need-sub-label-place
 sub-label-place c = search needs
 
-sub-verdict : tie.Need-sub-verdict
-sub-verdict c = search needs
-
-part-requires : tie.Need-part-requires
-part-requires c κs = search needs
-
-padding-set-requires : tie.Need-padding-set-requires
-padding-set-requires c κs = search needs
-
-sub-label-place-2 : tie.Need-sub-label-place-2
-sub-label-place-2 c = search needs
-
 label-place-requires : tie.Need-label-place-requires
 label-place-requires c κs = search needs
 
-sub-verdict-2 : tie.Need-sub-verdict-2
-sub-verdict-2 c = search needs
+sub-verdict : tie.Need-sub-verdict
+sub-verdict c = search needs
 
 shared-slice-read-verdict : tie.Need-shared-slice-read-verdict
 shared-slice-read-verdict c = search needs
@@ -72,53 +98,77 @@ thirty-two-requires c κs = search needs
 
 returns : tie.Need-returns
 unfolding partsStored
-returns c = simp (told (c .before .before .before .before), c .if1 .taken)
+returns c = simp (ram-told (answered (c .before)), c .if1 .taken)
 
 returns-2 : tie.Need-returns-2
 unfolding partsStored
-returns-2 c = simp (told (c .before .before .before .before .before), c .before .if1 .left, lt-ltb _ _ (c .if2 .taken))
+returns-2 c =
+    let asked = answered (c .before .before) in
+    simp (ram-told asked, c .before .if1 .left, guard-told asked, c .if2 .taken)
 
 returns-3 : tie.Need-returns-3
 unfolding partsStored
-returns-3 c = simp (judged (c .before) .0, judged (c .before) .1, sym (c .before .before .before .thirty-two .ensures), eq-eqb _ _ (c .if3 .taken))
-
-sub-t15 : tie.Need-sub-t15
-sub-t15 c = search needs
-
-sub-t14 : tie.Need-sub-t14
-sub-t14 c = search needs
+returns-3 c = simp (clean (c .before), lt-ltb _ _ (c .if3 .taken))
 
 returns-4 : tie.Need-returns-4
 unfolding partsStored
-returns-4 c =
-    let places = c .before .before .before .before .before in
+returns-4 c = simp (
+  clean (c .before .before),
+  le-ltb _ _ (c .before .if3 .left),
+  sym (c .before .before .before .before .thirty-two .ensures),
+  eq-eqb _ _ (c .if4 .taken),
+)
+
+sub-t19 : tie.Need-sub-t19
+sub-t19 c = search needs
+
+sub-t18 : tie.Need-sub-t18
+sub-t18 c = search needs
+
+returns-5 : tie.Need-returns-5
+unfolding partsStored
+returns-5 c =
+    let passes = c .before .before .before .before in
+    let label = passes .before .before in
+    let place = label .before .before in
+    let sizes = place .before .before .before in
     simp (
-      judged (c .before) .0,
-      judged (c .before) .1,
-      sym (c .before .before .before .thirty-two .ensures),
-      ne-eqb _ _ (c .if3 .left),
-      places .label-place .ensures,
-      places .before .before .before .after-trace .ensures,
+      clean (c .before .before),
+      le-ltb _ _ (c .before .if3 .left),
+      sym (passes .thirty-two .ensures),
+      ne-eqb _ _ (c .if4 .left),
+      label .label-place .ensures,
+      label .before .after-trace .ensures,
+      place .guard-place .ensures,
+      sizes .bytes-for3 .ensures,
+      sizes .before .bytes-for2 .ensures,
+      sizes .before .before .bytes-for .ensures,
     )
 
 pub stored-parts-spec : {M : Type 1} → statement M
 stored-parts-spec =
     tie.close
     (tie.spec
+    sub-t17
+    bytes-for-requires
+    sub-t17-2
+    bytes-for-requires-2
+    add-t20
+    bytes-for-requires-3
+    padding-in-requires
+    padding-in-requires-2
+    guard-place-requires
     after-trace-requires
     sub-label-place
-    sub-verdict
-    part-requires
-    padding-set-requires
-    sub-label-place-2
     label-place-requires
-    sub-verdict-2
+    sub-verdict
     shared-slice-read-verdict
     sub-thirty-two
     thirty-two-requires
     returns
     returns-2
     returns-3
-    sub-t15
-    sub-t14
-    returns-4)
+    returns-4
+    sub-t19
+    sub-t18
+    returns-5)

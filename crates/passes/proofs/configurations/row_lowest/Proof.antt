@@ -7,17 +7,17 @@ use Rattle.passes.proofs.configurations.row_lowest.Tie as tie
 returns : tie.Need-returns
 returns c = rw (c .if1 .taken)
 
-sub-bit : tie.Need-sub-bit
-sub-bit c = search needs
+sub-kind-at : tie.Need-sub-kind-at
+sub-kind-at c = search needs
 
-bit-requires : tie.Need-bit-requires
-bit-requires c κs = search needs
+kind-at-requires : tie.Need-kind-at-requires
+kind-at-requires c κs = search needs
 
 lowest-requires : tie.Need-lowest-requires
 lowest-requires c κs = search needs
 
 returns-2 : tie.Need-returns-2
-returns-2 c = lowest-some _ 0 _ (c .before .before .if1 .left) (c .before .bit .ensures) (c .lowest .ensures)
+returns-2 c = lowest-some _ _ (c .before .before .if1 .left) (c .before .kind-at .ensures .0) (c .lowest .ensures)
 
 pub row-lowest-spec : {M : Type 1} → statement M
-row-lowest-spec = tie.close (tie.spec returns sub-bit bit-requires lowest-requires returns-2)
+row-lowest-spec = tie.close (tie.spec returns sub-kind-at kind-at-requires lowest-requires returns-2)

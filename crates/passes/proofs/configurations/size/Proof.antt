@@ -17,15 +17,15 @@ loop-holds c = size-start _ _ _
 sub-i : tie.Need-sub-i Inv-loop μ-loop
 sub-i c = omega arith
 
-bit-requires : tie.Need-bit-requires Inv-loop μ-loop
-bit-requires c κs = search needs
+kind-at-requires : tie.Need-kind-at-requires Inv-loop μ-loop
+kind-at-requires c κs = search needs
 
 radix-requires : tie.Need-radix-requires Inv-loop μ-loop
 radix-requires c κs = search needs
 
 loop-again : tie.Need-loop-again Inv-loop μ-loop
 loop-again c = size-more _ _ _ _ (c .before .before .before .loop .inv) (c .before .before .loop-test .taken)
-    (c .before .before .before .before .pre .1) (c .before .bit .ensures) (c .radix .ensures)
+    (c .before .before .before .before .pre .1) (c .before .kind-at .ensures .0) (c .radix .ensures)
 
 mul-product : tie.Need-mul-product Inv-loop μ-loop
 mul-product c = omega (arith, size-fits _ _ _ _ (loop-again c) (c .before .before .before .before .pre .0))
@@ -44,7 +44,7 @@ size-spec =
     μ-loop
     loop-holds
     sub-i
-    bit-requires
+    kind-at-requires
     radix-requires
     mul-product
     loop-less

@@ -1,19 +1,13 @@
 -- `step` meets its contract. Before each turn what is left to step are the parameters below i.
 use mathlib.Core.Path.{_≡_, refl, ap}
-use mathlib.Core.Bool.{Bool, true, false}
 use Prim.Native.Nat.{ℕ, _+_, _≤_}
 use native.Mathlib.Omega.{arith}
 use borrow.Author.Needs.{needs}
-use Rattle.codes.specs.{lowestCode}
 use Rattle.passes.specs.Mirror.{stepped}
-use Rattle.passes.proofs.SetupLoops.{radix-bound}
+use Rattle.passes.proofs.SetupLoops.{radix-bound, lowest-small}
 use Rattle.passes.proofs.Rows.{step-stops, step-goes, step-whole}
 use Rattle.passes.proofs.configurations.step.Statement.{statement}
 use Rattle.passes.proofs.configurations.step.Tie as tie
-
-lowest-small : (list : Bool) → lowestCode list ≤ 5
-lowest-small true = omega arith
-lowest-small false = omega arith
 
 abbrev Inv-loop : tie.InvT-loop
 Inv-loop kinds count n env₀ i₀ env i = (i ≤ count) × (stepped kinds n count env₀ ≡ stepped kinds n i env)
@@ -27,8 +21,8 @@ loop-holds c = (omega arith, refl)
 sub-i : tie.Need-sub-i Inv-loop μ-loop
 sub-i c = omega arith
 
-bit-requires : tie.Need-bit-requires Inv-loop μ-loop
-bit-requires c κs = search needs
+kind-at-requires : tie.Need-kind-at-requires Inv-loop μ-loop
+kind-at-requires c κs = search needs
 
 lowest-requires : tie.Need-lowest-requires Inv-loop μ-loop
 lowest-requires c κs = search needs
@@ -49,10 +43,10 @@ radix-requires : tie.Need-radix-requires Inv-loop μ-loop
 radix-requires c κs = search needs
 
 add-if1 : tie.Need-add-if1 Inv-loop μ-loop
-add-if1 c = omega (arith, lowest-small (c .before .before .before .before .bit .result), c .before .before .before .lowest .ensures, radix-bound (c .before .before .before .before .bit .result) _ (c .before .before .before .before .before .before .before .pre .1), c .radix .ensures)
+add-if1 c = omega (arith, lowest-small (c .before .before .before .before .kind-at .result), c .before .before .before .lowest .ensures, radix-bound (c .before .before .before .before .kind-at .result) _ (c .before .before .before .before .before .before .before .pre .1), c .radix .ensures)
 
 cast-env : tie.Need-cast-env Inv-loop μ-loop
-cast-env c = omega (arith, c .if1 .taken, lowest-small (c .before .before .before .before .before .bit .result), c .before .before .before .before .lowest .ensures, radix-bound (c .before .before .before .before .before .bit .result) _ (c .before .before .before .before .before .before .before .before .pre .1), c .before .radix .ensures)
+cast-env c = omega (arith, c .if1 .taken, lowest-small (c .before .before .before .before .before .kind-at .result), c .before .before .before .before .lowest .ensures, radix-bound (c .before .before .before .before .before .kind-at .result) _ (c .before .before .before .before .before .before .before .before .pre .1), c .before .radix .ensures)
 
 mul-env : tie.Need-mul-env Inv-loop μ-loop
 mul-env c = omega arith
@@ -62,11 +56,11 @@ element-write-env c = omega arith
 
 returns : tie.Need-returns Inv-loop μ-loop
 returns c =
-    step-stops _ _ _ _ (c .before .before .before .before .before .before .loop-test .taken) (c .before .before .before .before .before .bit .ensures) (c .before .before .before .before .lowest .ensures) (c .before .radix .ensures)
+    step-stops _ _ _ _ (c .before .before .before .before .before .before .loop-test .taken) (c .before .before .before .before .before .kind-at .ensures .0) (c .before .before .before .before .lowest .ensures) (c .before .radix .ensures)
     (ap (λ (v : ℕ). v + 1) (c .before .before .wide .ensures .0)) (c .if1 .taken) (c .before .before .before .before .before .before .before .loop .inv .1)
 
 cast-env-2 : tie.Need-cast-env-2 Inv-loop μ-loop
-cast-env-2 c = omega (arith, lowest-small (c .before .before .before .before .before .bit .result), c .before .before .before .before .lowest .ensures, radix-bound (c .before .before .before .before .before .bit .result) _ (c .before .before .before .before .before .before .before .before .pre .1), c .before .radix .ensures)
+cast-env-2 c = omega (arith, lowest-small (c .before .before .before .before .before .kind-at .result), c .before .before .before .before .lowest .ensures, radix-bound (c .before .before .before .before .before .kind-at .result) _ (c .before .before .before .before .before .before .before .before .pre .1), c .before .radix .ensures)
 
 mul-env-2 : tie.Need-mul-env-2 Inv-loop μ-loop
 mul-env-2 c = omega arith
@@ -80,7 +74,7 @@ loop-less c = omega arith
 loop-again : tie.Need-loop-again Inv-loop μ-loop
 loop-again c = (
   omega arith,
-  step-goes _ _ _ _ (c .before .before .before .before .before .before .loop-test .taken) (c .before .before .before .before .before .bit .ensures) (c .before .before .before .before .lowest .ensures) (c .before .radix .ensures)
+  step-goes _ _ _ _ (c .before .before .before .before .before .before .loop-test .taken) (c .before .before .before .before .before .kind-at .ensures .0) (c .before .before .before .before .lowest .ensures) (c .before .radix .ensures)
       (ap (λ (v : ℕ). v + 1) (c .before .before .wide .ensures .0)) (c .if1 .left) (c .before .before .before .before .before .before .before .loop .inv .1),
 )
 
@@ -95,7 +89,7 @@ step-spec =
     μ-loop
     loop-holds
     sub-i
-    bit-requires
+    kind-at-requires
     lowest-requires
     mul-wide
     element-copy-out-wide

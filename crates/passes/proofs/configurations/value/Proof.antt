@@ -1,21 +1,15 @@
 -- `value` meets its contract: the sum fits.
-use mathlib.Core.Bool.{Bool, true, false}
-use Prim.Native.Nat.{_≤_}
 use native.Mathlib.Omega.{arith}
-use Rattle.codes.specs.{lowestCode}
 use borrow.Author.Needs.{needs}
+use Rattle.passes.proofs.SetupLoops.{lowest-small}
 use Rattle.passes.proofs.configurations.value.Statement.{statement}
 use Rattle.passes.proofs.configurations.value.Tie as tie
-
-lowest-small : (list : Bool) → lowestCode list ≤ 5
-lowest-small true = omega arith
-lowest-small false = omega arith
 
 lowest-requires : tie.Need-lowest-requires
 lowest-requires c κs = search needs
 
 add-result : tie.Need-add-result
-add-result c = omega (arith, c .lowest .ensures, lowest-small (c .before .args .list))
+add-result c = omega (arith, c .lowest .ensures, lowest-small (c .before .args .kind))
 
 cast-result : tie.Need-cast-result
 cast-result c = search needs

@@ -20,14 +20,14 @@ loop-holds c = (omega arith, refl)
 sub-i : tie.Need-sub-i Inv-loop μ-loop
 sub-i c = omega arith
 
-bit-requires : tie.Need-bit-requires Inv-loop μ-loop
-bit-requires c κs = search needs
+kind-at-requires : tie.Need-kind-at-requires Inv-loop μ-loop
+kind-at-requires c κs = search needs
 
 radix-requires : tie.Need-radix-requires Inv-loop μ-loop
 radix-requires c κs = search needs
 
 rem-value : tie.Need-rem-value Inv-loop μ-loop
-rem-value c = rw (c .radix .ensures) (radix-pos (c .before .bit .result) _)
+rem-value c = rw (c .radix .ensures) (radix-pos (c .before .kind-at .result) _)
 
 value-requires : tie.Need-value-requires Inv-loop μ-loop
 value-requires c κs = search needs
@@ -45,10 +45,10 @@ loop-less : tie.Need-loop-less Inv-loop μ-loop
 loop-less c = omega arith
 
 loop-again : tie.Need-loop-again Inv-loop μ-loop
-loop-again c = (omega arith, values-more _ _ _ _ _ (c .before .before .before .before .loop .inv .1) (c .before .before .before .loop-test .taken) (c .before .before .bit .ensures) (c .before .radix .ensures) (c .value .ensures))
+loop-again c = (omega arith, values-more _ _ _ _ _ (c .before .before .before .before .loop .inv .1) (c .before .before .before .loop-test .taken) (c .before .before .kind-at .ensures .0) (c .before .radix .ensures) (c .value .ensures))
 
-bit-requires-2 : tie.Need-bit-requires-2 Inv-loop μ-loop
-bit-requires-2 c κs = search needs
+kind-at-requires-2 : tie.Need-kind-at-requires-2 Inv-loop μ-loop
+kind-at-requires-2 c κs = search needs
 
 value-requires-2 : tie.Need-value-requires-2 Inv-loop μ-loop
 value-requires-2 c κs = search needs
@@ -57,7 +57,7 @@ element-write-env-2 : tie.Need-element-write-env-2 Inv-loop μ-loop
 element-write-env-2 c = search needs
 
 returns : tie.Need-returns Inv-loop μ-loop
-returns c = values-one _ _ _ _ _ (c .before .before .before .before .loop .inv .1) (c .before .before .before .loop-test .left) (c .before .before .if1 .taken) (c .before .bit2 .ensures) (c .value2 .ensures)
+returns c = values-one _ _ _ _ _ (c .before .before .before .before .loop .inv .1) (c .before .before .before .loop-test .left) (c .before .before .if1 .taken) (c .before .kind-at2 .ensures .0) (c .value2 .ensures)
 
 returns-2 : tie.Need-returns-2 Inv-loop μ-loop
 returns-2 c = values-none _ _ _ _ _ (c .before .before .loop .inv .1) (c .if1 .left)
@@ -70,7 +70,7 @@ values-spec =
     μ-loop
     loop-holds
     sub-i
-    bit-requires
+    kind-at-requires
     radix-requires
     rem-value
     value-requires
@@ -79,7 +79,7 @@ values-spec =
     div-rest
     loop-less
     loop-again
-    bit-requires-2
+    kind-at-requires-2
     value-requires-2
     element-write-env-2
     returns

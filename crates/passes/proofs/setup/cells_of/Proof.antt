@@ -2,42 +2,38 @@
 use Prim.Native.Nat.{_-_, _≤_}
 use native.Mathlib.Omega.{arith}
 use borrow.Author.Needs.{needs}
-use Rattle.passes.proofs.SetupLoops.{Listed, listed-start, listed-more, cells-listed}
+use Rattle.passes.specs.Mirror.{heads}
+use Rattle.passes.proofs.SetupLoops.{short-shortened, Listed, listed-start, listed-more, cells-listed}
 use Rattle.passes.proofs.setup.cells_of.Statement.{statement}
 use Rattle.passes.proofs.setup.cells_of.Tie as tie
 
 abbrev Inv-loop : tie.InvT-loop
-Inv-loop count params kinds n functions₀ total₀ samples last g₀ functions total g = (g ≤ last) × Listed kinds params samples functions total g
+Inv-loop count params kinds guards functions₀ total₀ samples last g₀ functions total g =
+    (g ≤ last) × Listed (heads kinds guards params) samples functions total g
 
 abbrev μ-loop : tie.MeasureT-loop
-μ-loop count params kinds n functions₀ total₀ samples last g₀ functions total g = last - g
+μ-loop count params kinds guards functions₀ total₀ samples last g₀ functions total g = last - g
 
-smaller-requires : tie.Need-smaller-requires Inv-loop μ-loop
-smaller-requires c κs = search needs
-
-cast-samples : tie.Need-cast-samples Inv-loop μ-loop
-cast-samples c = omega arith
+shortened-lengths-requires : tie.Need-shortened-lengths-requires Inv-loop μ-loop
+shortened-lengths-requires c κs = search needs
 
 cast-smaller : tie.Need-cast-smaller Inv-loop μ-loop
 cast-smaller c = omega arith
 
-smaller-requires-2 : tie.Need-smaller-requires-2 Inv-loop μ-loop
-smaller-requires-2 c κs = search needs
+smaller-requires : tie.Need-smaller-requires Inv-loop μ-loop
+smaller-requires c κs = search needs
 
 loop-holds : tie.Need-loop-holds Inv-loop μ-loop
-loop-holds c = (omega arith, listed-start _ _ _)
+loop-holds c = (omega arith, listed-start _ _)
 
-element-copy-out-wide : tie.Need-element-copy-out-wide Inv-loop μ-loop
-element-copy-out-wide c = omega arith
+element-copy-out-signature : tie.Need-element-copy-out-signature Inv-loop μ-loop
+element-copy-out-signature c = omega arith
 
-wide-requires : tie.Need-wide-requires Inv-loop μ-loop
-wide-requires c κs = search needs
+element-copy-out-signature-2 : tie.Need-element-copy-out-signature-2 Inv-loop μ-loop
+element-copy-out-signature-2 c = omega arith
 
-element-copy-out-wide-2 : tie.Need-element-copy-out-wide-2 Inv-loop μ-loop
-element-copy-out-wide-2 c = omega arith
-
-wide-requires-2 : tie.Need-wide-requires-2 Inv-loop μ-loop
-wide-requires-2 c κs = search needs
+signature-requires : tie.Need-signature-requires Inv-loop μ-loop
+signature-requires c κs = search needs
 
 mul-functions : tie.Need-mul-functions Inv-loop μ-loop
 mul-functions c = omega arith
@@ -53,6 +49,12 @@ mul-functions-2 c = omega arith
 
 array-write-functions-2 : tie.Need-array-write-functions-2 Inv-loop μ-loop
 array-write-functions-2 c = omega arith
+
+element-copy-out-wide : tie.Need-element-copy-out-wide Inv-loop μ-loop
+element-copy-out-wide c = omega arith
+
+wide-requires : tie.Need-wide-requires Inv-loop μ-loop
+wide-requires c κs = search needs
 
 add-functions-2 : tie.Need-add-functions-2 Inv-loop μ-loop
 add-functions-2 c = omega arith
@@ -70,10 +72,10 @@ at-most-four-requires : tie.Need-at-most-four-requires Inv-loop μ-loop
 at-most-four-requires c κs = search needs
 
 size-requires : tie.Need-size-requires Inv-loop μ-loop
-size-requires c κs = (c .at-most-four .ensures .1, omega (arith, c .before .before .before .before .before .before .before .before .before .smaller .ensures))
+size-requires c κs = (c .at-most-four .ensures .1, short-shortened _ (c .before .before .before .before .before .before .before .before .before .before .shortened-lengths .ensures))
 
 add-total : tie.Need-add-total Inv-loop μ-loop
-add-total c = omega (arith, c .before .before .before .before .before .before .before .before .loop .inv .1 .bound, c .size .ensures .1)
+add-total c = omega (arith, c .before .before .before .before .before .before .before .before .before .loop .inv .1 .bound, c .size .ensures .1)
 
 add-g : tie.Need-add-g Inv-loop μ-loop
 add-g c = omega arith
@@ -83,18 +85,15 @@ loop-less c = omega arith
 
 loop-again : tie.Need-loop-again Inv-loop μ-loop
 loop-again c =
-    let wide2 = c .before .before .before in
-    let wide = wide2 .before .before in
-    let at = wide .before .before .before in
-    let count = c .before .at-most-four .ensures .0 in
-    (omega arith, listed-more _ _ _ _ (at .loop .inv .1) (wide .wide .ensures) (wide2 .wide2 .ensures) count (c .size .ensures))
+    let wide = c .before .before .before in
+    let signed = wide .before .before in
+    let at = signed .before .before .before .before in
+    (omega arith, listed-more _ _ _ (at .loop .inv .1) (signed .signature .ensures) (wide .wide .ensures .0) (c .before .at-most-four .ensures .0) (c .size .ensures))
 
 returns : tie.Need-returns Inv-loop μ-loop
 returns c =
     let at = c .before in
-    let samples = at .before .before .smaller .ensures in
-    let last = at .before .smaller2 .ensures in
-    cells-listed _ _ _ _ _ samples last (at .loop .inv .1) (at .loop .inv .0) (c .loop-test .left)
+    cells-listed _ _ _ _ (at .before .before .shortened-lengths .ensures) (at .before .smaller .ensures) (at .loop .inv .1) (at .loop .inv .0) (c .loop-test .left)
 
 pub cells-of-spec : {M : Type 1} → statement M
 cells-of-spec =
@@ -102,20 +101,20 @@ cells-of-spec =
     (tie.spec
     Inv-loop
     μ-loop
-    smaller-requires
-    cast-samples
+    shortened-lengths-requires
     cast-smaller
-    smaller-requires-2
+    smaller-requires
     loop-holds
-    element-copy-out-wide
-    wide-requires
-    element-copy-out-wide-2
-    wide-requires-2
+    element-copy-out-signature
+    element-copy-out-signature-2
+    signature-requires
     mul-functions
     array-write-functions
     add-functions
     mul-functions-2
     array-write-functions-2
+    element-copy-out-wide
+    wide-requires
     add-functions-2
     mul-functions-3
     array-write-functions-3

@@ -10,10 +10,10 @@ use Rattle.rule.proofs.functions.check_bodies.Statement.{statement}
 use Rattle.rule.proofs.functions.check_bodies.Tie as tie
 
 abbrev Inv-loop : tie.InvT-loop
-Inv-loop program count params kinds starts ends n i₀ i = Going (frameAt program count params kinds starts ends) count i
+Inv-loop program sort count params kinds guards starts ends n i₀ i = Going (frameAt program sort count params kinds guards starts ends) count i
 
 abbrev μ-loop : tie.MeasureT-loop
-μ-loop program count params kinds starts ends n i₀ i = count - i
+μ-loop program sort count params kinds guards starts ends n i₀ i = count - i
 
 loop-holds : tie.Need-loop-holds Inv-loop μ-loop
 loop-holds c = going-start _ _
@@ -51,21 +51,15 @@ part-body-start c = c .before .before .before .before .before .pre .ordered (c .
 part-body-end : tie.Need-part-body-end Inv-loop μ-loop
 part-body-end c = c .before .before .before .before .before .pre .within (c .before .before .before .loop .i) (c .before .before .loop-test .taken)
 
-element-copy-out-heads-of : tie.Need-element-copy-out-heads-of Inv-loop μ-loop
-element-copy-out-heads-of c = omega arith
-
-element-copy-out-heads-of-2 : tie.Need-element-copy-out-heads-of-2 Inv-loop μ-loop
-element-copy-out-heads-of-2 c = omega arith
-
 heads-of-requires : tie.Need-heads-of-requires Inv-loop μ-loop
-heads-of-requires c κs = search needs
+heads-of-requires c κs = omega (arith, c .before .before .before .before .before .before .pre .few)
 
 check-body-requires : tie.Need-check-body-requires Inv-loop μ-loop
 check-body-requires c κs =
-    let start = c .before .before .before .before .before .before .before .before .before .before in
+    let start = c .before .before .before .before .before .before .before .before in
     let a = start .args in
-    let i = c .before .before .before .before .before .before .before .before .loop .i in
-    let h = c .before .before .before .before .before .before .before .loop-test .taken in
+    let i = c .before .before .before .before .before .before .loop .i in
+    let h = c .before .before .before .before .before .loop-test .taken in
     let F = c .before .heads-of .ensures [] in
     record {
       short = omega (arith, part-short (a .program .now) (start .pre .ordered i h) (start .pre .within i h), start .pre .short);
@@ -79,8 +73,8 @@ enum-known-refusal c = search needs
 returns : tie.Need-returns Inv-loop μ-loop
 returns c =
     going-stop
-    (c .before .before .before .before .before .before .before .before .before .before .before .before .loop .inv)
-    (c .before .before .before .before .before .before .before .before .before .before .before .loop-test .taken)
+    (c .before .before .before .before .before .before .before .before .before .before .loop .inv)
+    (c .before .before .before .before .before .before .before .before .before .loop-test .taken)
     (sym (c .before .before .before .check-body .ensures ∙ ap bodyAt (c .before .before .before .before .before .heads-of .ensures _))
     ∙ c .before .refusal .given .1)
 
@@ -95,8 +89,8 @@ loop-less c = omega arith
 
 loop-again : tie.Need-loop-again Inv-loop μ-loop
 loop-again c =
-    going-more (c .before .before .before .before .before .before .before .before .before .before .before .loop .inv)
-    (c .before .before .before .before .before .before .before .before .before .before .loop-test .taken)
+    going-more (c .before .before .before .before .before .before .before .before .before .loop .inv)
+    (c .before .before .before .before .before .before .before .before .loop-test .taken)
     (sym (c .before .before .check-body .ensures ∙ ap bodyAt (c .before .before .before .before .heads-of .ensures _)) ∙ c .enum-told .given .1)
 
 returns-2 : tie.Need-returns-2 Inv-loop μ-loop
@@ -118,8 +112,6 @@ check-bodies-spec =
     sub-body
     part-body-start
     part-body-end
-    element-copy-out-heads-of
-    element-copy-out-heads-of-2
     heads-of-requires
     check-body-requires
     enum-known-refusal

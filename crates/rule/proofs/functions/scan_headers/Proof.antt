@@ -10,13 +10,17 @@ use Rattle.rule.proofs.functions.scan_headers.Statement.{statement}
 use Rattle.rule.proofs.functions.scan_headers.Tie as tie
 
 abbrev Inv-loop : tie.InvT-loop
-Inv-loop program count n params₀ kinds₀ starts₀ ends₀ at₀ i₀ params kinds starts ends at i = Scanned program count params kinds starts ends at i
+Inv-loop program sort count n size params₀ kinds₀ guards₀ starts₀ ends₀ at₀ i₀ params kinds guards starts ends at i =
+    Scanned sort program count params kinds guards starts ends at i
 
 abbrev μ-loop : tie.MeasureT-loop
-μ-loop program count n params₀ kinds₀ starts₀ ends₀ at₀ i₀ params kinds starts ends at i = count - i
+μ-loop program sort count n size params₀ kinds₀ guards₀ starts₀ ends₀ at₀ i₀ params kinds guards starts ends at i = count - i
+
+header-bytes-requires : tie.Need-header-bytes-requires Inv-loop μ-loop
+header-bytes-requires c κs = search needs
 
 loop-holds : tie.Need-loop-holds Inv-loop μ-loop
-loop-holds c = scanned-start _ _ (c .before .pre .some)
+loop-holds c = scanned-start _ _ _ (c .before .before .pre .some)
 
 header-at-requires : tie.Need-header-at-requires Inv-loop μ-loop
 header-at-requires c κs = search needs
@@ -31,6 +35,7 @@ returns : tie.Need-returns Inv-loop μ-loop
 returns c =
     scan-refused
     _
+    _
     (scanned-stop
     (c .before .before .before .before .before .before .loop .inv)
     (c .before .before .before .before .before .loop-test .taken)
@@ -43,11 +48,13 @@ enum-known-header c = search needs
 -- the body of the header that was found ends within the program
 fits : (c : tie.After-struct-known Inv-loop μ-loop)
     → (c .before .before .header .given .0 .0 .length ≤ mostBody)
-    × (c .before .before .before .before .before .before .loop .at + 4 + c .before .before .header .given .0 .0 .length ≤
-    length (c .before .before .before .before .before .before .before .before .args .program .now))
+    × (c .before .before .before .before .before .before .loop .at + c .before .before .before .before .before .before .before .header-bytes .result +
+    c .before .before .header .given .0 .0 .length ≤
+    length (c .before .before .before .before .before .before .before .before .before .args .program .now))
 fits c =
-    next-fits (c .before .before .before .before .before .before .loop .inv)
-    (sym (c .before .before .before .before .header-at .ensures) ∙ c .before .before .header .given .1)
+    rw (c .before .before .before .before .before .before .before .header-bytes .ensures .0)
+    (next-fits (c .before .before .before .before .before .before .loop .inv)
+    (sym (c .before .before .before .before .header-at .ensures) ∙ c .before .before .header .given .1))
 
 add-start : tie.Need-add-start Inv-loop μ-loop
 add-start c = omega arith
@@ -63,6 +70,9 @@ array-write-params c = omega arith
 
 array-write-kinds : tie.Need-array-write-kinds Inv-loop μ-loop
 array-write-kinds c = omega arith
+
+array-write-guards : tie.Need-array-write-guards Inv-loop μ-loop
+array-write-guards c = omega arith
 
 cast-starts : tie.Need-cast-starts Inv-loop μ-loop
 cast-starts c = omega (arith, fits c)
@@ -90,11 +100,12 @@ loop-less c = omega arith
 
 loop-again : tie.Need-loop-again Inv-loop μ-loop
 loop-again c =
-    scanned-more
+    rw (c .before .before .before .before .before .before .before .header-bytes .ensures .0)
+    (scanned-more
     (c .before .before .before .before .before .before .loop .inv)
-    (c .before .before .before .before .before .before .before .before .pre .few)
+    (c .before .before .before .before .before .before .before .before .before .pre .few)
     (c .before .before .before .before .before .loop-test .taken)
-    (sym (c .before .before .before .before .header-at .ensures) ∙ c .before .before .header .given .1)
+    (sym (c .before .before .before .before .header-at .ensures) ∙ c .before .before .header .given .1))
 
 returns-2 : tie.Need-returns-2 Inv-loop μ-loop
 returns-2 c = scan-passed (c .before .loop .inv) (c .loop-test .left)
@@ -105,6 +116,7 @@ scan-headers-spec =
     (tie.spec
     Inv-loop
     μ-loop
+    header-bytes-requires
     loop-holds
     header-at-requires
     enum-known-refusal
@@ -116,6 +128,7 @@ scan-headers-spec =
     add-end
     array-write-params
     array-write-kinds
+    array-write-guards
     cast-starts
     mul-starts
     array-write-starts

@@ -15,16 +15,17 @@ use Rattle.syntax.proofs.nodes.node_of.Tie as tie
 ranged : ℕ → Node
 ranged b = cond (leb 0x10 b && leb b 0x13) (Param (b - 0x10)) (cond (leb 0x80 b && leb b 0x9F) (Call (b - 0x80)) Unknown)
 
-others : (b : ℕ) → (b ≡ 0x00 → ⊥) → (b ≡ 0x01 → ⊥) → (b ≡ 0x02 → ⊥) → (b ≡ 0x20 → ⊥) → (b ≡ 0x21 → ⊥) → (b ≡ 0x22 → ⊥)
+others : (b : ℕ) → (b ≡ 0x00 → ⊥) → (b ≡ 0x01 → ⊥) → (b ≡ 0x02 → ⊥) → (b ≡ 0x03 → ⊥) → (b ≡ 0x20 → ⊥) → (b ≡ 0x21 → ⊥) → (b ≡ 0x22 → ⊥)
     → (b ≡ 0x23 → ⊥) → (b ≡ 0x24 → ⊥) → nodeOf b ≡ ranged b
 unfolding nodeOf ranged
-others b h0 h1 h2 h3 h4 h5 h6 h7 =
-    simp (ne-eqb _ _ h0, ne-eqb _ _ h1, ne-eqb _ _ h2, ne-eqb _ _ h3, ne-eqb _ _ h4, ne-eqb _ _ h5, ne-eqb _ _ h6, ne-eqb _ _ h7)
+others b h0 h1 h2 h3 h4 h5 h6 h7 h8 =
+    simp (ne-eqb _ _ h0, ne-eqb _ _ h1, ne-eqb _ _ h2, ne-eqb _ _ h3, ne-eqb _ _ h4, ne-eqb _ _ h5, ne-eqb _ _ h6, ne-eqb _ _ h7, ne-eqb _ _ h8)
 
 rest : (c : tie.At-match-rest) → nodeOf (c .before .args .byte) ≡ ranged (c .before .args .byte)
 rest c =
     let r = c .match .rest in
-    others _ (r .0 .0 .0 .0 .0 .0 .0 .1) (r .0 .0 .0 .0 .0 .0 .1) (r .0 .0 .0 .0 .0 .1) (r .0 .0 .0 .0 .1) (r .0 .0 .0 .1)
+    others _ (r .0 .0 .0 .0 .0 .0 .0 .0 .1) (r .0 .0 .0 .0 .0 .0 .0 .1) (r .0 .0 .0 .0 .0 .0 .1) (r .0 .0 .0 .0 .0 .1) (r .0 .0 .0 .0 .1)
+    (r .0 .0 .0 .1)
     (r .0 .0 .1) (r .0 .1) (r .1)
 
 in-first : (b : ℕ) → 0x10 ≤ b → b ≤ 0x13 → Param (b - 0x10) ≡ ranged b
@@ -95,19 +96,23 @@ unfolding nodeOf
 returns-8 c = sym (ap nodeOf (c .match .keys8))
 
 returns-9 : tie.Need-returns-9
-returns-9 c = in-first _ (c .before .if1 .left) (omega arith) ∙ sym (rest (c .before .before))
+unfolding nodeOf
+returns-9 c = sym (ap nodeOf (c .match .keys9))
 
 returns-10 : tie.Need-returns-10
-returns-10 c = in-second _ (c .before .if3 .left) (omega arith) ∙ sym (rest (c .before .before .before .before))
+returns-10 c = in-first _ (c .before .if1 .left) (omega arith) ∙ sym (rest (c .before .before))
 
 returns-11 : tie.Need-returns-11
-returns-11 c = below _ (c .if1 .taken) ∙ sym (rest (c .before))
+returns-11 c = in-second _ (c .before .if3 .left) (omega arith) ∙ sym (rest (c .before .before .before .before))
 
 returns-12 : tie.Need-returns-12
-returns-12 c = between _ (c .before .if2 .left) (c .if3 .taken) ∙ sym (rest (c .before .before .before))
+returns-12 c = below _ (c .if1 .taken) ∙ sym (rest (c .before))
 
 returns-13 : tie.Need-returns-13
-returns-13 c = above _ (c .if4 .left) ∙ sym (rest (c .before .before .before .before))
+returns-13 c = between _ (c .before .if2 .left) (c .if3 .taken) ∙ sym (rest (c .before .before .before))
+
+returns-14 : tie.Need-returns-14
+returns-14 c = above _ (c .if4 .left) ∙ sym (rest (c .before .before .before .before))
 
 pub node-of-spec : {M : Type 1} → statement M
 node-of-spec =
@@ -125,4 +130,5 @@ node-of-spec =
     returns-10
     returns-11
     returns-12
-    returns-13)
+    returns-13
+    returns-14)

@@ -1,0 +1,17 @@
+-- `shift` meets its contract, by its two cases.
+use borrow.Author.Tests.{eq-eqb, ne-eqb}
+use borrow.Author.Needs.{needs}
+use Rattle.codes.proofs.shift.Statement.{statement}
+use Rattle.codes.proofs.shift.Tie as tie
+
+cast-result : tie.Need-cast-result
+cast-result c = search needs
+
+returns : tie.Need-returns
+returns c = simp (eq-eqb _ _ (c .if1 .taken))
+
+returns-2 : tie.Need-returns-2
+returns-2 c = simp (ne-eqb _ _ (c .if1 .left))
+
+pub shift-spec : {M : Type 1} → statement M
+shift-spec = tie.close (tie.spec cast-result returns returns-2)
