@@ -81,10 +81,8 @@ fn conditional(
 {
     let value = param(env, node);
     if sort == nodes::IF_NULL {
-        if codes::SUFFIX < value {
-            if value != codes::GUARD_SUFFIX {
-                return take(words, traces, table, env, depth, nodes::third(words, node));
-            }
+        if codes::SUFFIX < value % codes::GUARD_SHIFT {
+            return take(words, traces, table, env, depth, nodes::third(words, node));
         }
         return branch(words, traces, table, env, depth, node, codes::null(value));
     }
@@ -155,7 +153,7 @@ fn call(
         rest = rest / 4096;
         i += 1;
     }
-    lookup(words[place], table, index)
+    functions::working(words[place], lookup(words[place], table, index))
 }
 
 // A call with one argument, if that is a leaf.
@@ -180,7 +178,7 @@ fn call_one(
     if functions::values(kind) <= digit {
         return value;
     }
-    lookup(words[place], table, digit)
+    functions::working(words[place], lookup(words[place], table, digit))
 }
 
 // The number of the outcome of a leaf: a constant, a parameter, its tl or its hd. NO_LEAF for other nodes.

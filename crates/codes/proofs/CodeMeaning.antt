@@ -9,7 +9,7 @@
 --   decided-means                           what a cell holds, by the result kind of its function
 --   working-means, cell-working             from a cell to the working number, and back
 --   working-not-zero                        no outcome has the working number of undecided
-use Prim.Native.Nat.{ℕ, zero, suc, _+_, _-_, _<_, _≤_}
+use Prim.Native.Nat.{ℕ, zero, suc, _+_, _-_, _<_, _≤_, _%_}
 use native.Mathlib.Omega.{arith}
 use mathlib.Core.Path.{_≡_, refl, _∙_}
 use mathlib.Core.Bool.{Bool, true, false, cond}
@@ -33,7 +33,7 @@ use Rattle.semantics.proofs.Demands.{same-contact, suffix-in, ofDemand, demand-
 use Rattle.semantics.proofs.Cells.{code-held}
 use Rattle.syntax.specs.Kinds.{kindNumber}
 use Rattle.codes.specs.declared.Lengths.{Lengths}
-use Rattle.codes.specs.{workingOf, mostTraceBytes, sampleCode, headBy, headOf, emptyCode, tailOf, nullOf, radixOf, lowestCode, foreign, leastCode, mostCode, decidedCode, shiftOf, workingBy, cellCode}
+use Rattle.codes.specs.{guardShift, guardCode, workingOf, mostTraceBytes, sampleCode, headBy, headOf, emptyCode, tailOf, nullOf, radixOf, lowestCode, foreign, leastCode, mostCode, decidedCode, shiftOf, workingBy, cellCode}
 
 -- ---- Traces
 
@@ -89,8 +89,8 @@ is-empty Ram = refl
 is-empty Guard = refl
 
 not-empty : (c : Contact) (k : ℕ) → suc k ≤ mostSamples → emptyCode (workingOf (Suffix c (suc k))) ≡ false
-not-empty Ram k h = simp (ne-eqb (5 + suc k) 5 (λ e. omega arith), ne-eqb (5 + suc k) 8197 (λ e. omega arith))
-not-empty Guard k h = simp (ne-eqb (8197 + suc k) 5 (λ e. omega arith), ne-eqb (8197 + suc k) 8197 (λ e. omega arith))
+not-empty Ram k h = ne-eqb ((suffixCode + suc k) % guardShift) suffixCode (λ z. omega arith)
+not-empty Guard k h = ne-eqb ((guardCode + suc k) % guardShift) suffixCode (λ z. omega arith)
 
 one-less : (c : Contact) (k : ℕ) → workingOf (Suffix c (suc k)) - 1 ≡ workingOf (Suffix c k)
 one-less Ram k = omega arith
@@ -244,8 +244,8 @@ suffix-shifted Ram k h = simp (le-ltb (5 + k) 5 (omega arith)) (omega arith)
 suffix-shifted Guard k h = simp (le-ltb (5 + k) 5 (omega arith)) (omega arith)
 
 suffix-cell : (c : Contact) (k : ℕ) → k ≤ mostSamples → cellCode (workingOf (Suffix c k)) ≡ suffixCode + k
-suffix-cell Ram k h = simp (lt-ltb (5 + k) 8197 (omega arith))
-suffix-cell Guard k h = simp (le-ltb (8197 + k) 8197 (omega arith)) (omega arith)
+suffix-cell Ram k h = omega arith
+suffix-cell Guard k h = omega arith
 
 module _ (t : Traces) (short : ShortTraces t) where
   working-code : (κ : Kind) (o : Outcome) → T (ofKind t κ o) → workingBy (shiftOf (kindNumber κ)) (codeOf o) ≡ workingOf o

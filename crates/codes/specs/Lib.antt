@@ -52,7 +52,7 @@ headOf traces n m c =
 
 -- whether a number is that of an empty list
 abbrev pub emptyCode : ℕ → Bool
-emptyCode c = cond (eqb c suffixCode) true (eqb c guardCode)
+emptyCode c = eqb (c % guardShift) suffixCode
 
 abbrev pub tailOf : ℕ → ℕ
 tailOf c = cond (ltb c suffixCode) c (cond (emptyCode c) tailCode (c - 1))
@@ -107,4 +107,4 @@ workingBy shift cell = cond (ltb cell suffixCode) cell ((cell + shift) % 65536)
 
 -- the number that a cell holds for a working number
 abbrev pub cellCode : ℕ → ℕ
-cellCode c = cond (ltb c guardCode) c (c - guardShift)
+cellCode c = c % guardShift

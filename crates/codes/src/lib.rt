@@ -100,10 +100,7 @@ pub fn null(operand: u16) -> u16
 pub fn is_empty(operand: u16) -> bool
     ensures { λ r. ⌜ r ≡ emptyCode operand ⌝ }
 {
-    if operand == SUFFIX {
-        return true;
-    }
-    operand == GUARD_SUFFIX
+    operand % GUARD_SHIFT == SUFFIX
 }
 
 // What a cell holds: a number that is not from `least` to `most` is no outcome of its kind, and counts as undecided.
@@ -134,11 +131,7 @@ pub fn working(shift: u16, cell: u16) -> u16
 pub fn cell(number: u16) -> u16
     ensures { λ r. ⌜ r ≡ cellCode number ⌝ }
 {
-    if number < GUARD_SUFFIX {
-        number
-    } else {
-        number - GUARD_SHIFT
-    }
+    number % GUARD_SHIFT
 }
 
 // The length of the trace that a list kind means.

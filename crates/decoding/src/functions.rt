@@ -1,7 +1,8 @@
 // The words of functions: how they are made and read.
 use codes::Lengths;
 ghost use mathlib.Core.Path.{_≡_};
-ghost use Rattle.decoding.specs.Words.{functionWord, kindWord, firstIn, heldIn, workingIn, valuesIn, lowestIn};
+ghost use Rattle.decoding.specs.Words.{functionWord, kindWord, firstIn, heldIn, shiftIn, valuesIn, lowestIn};
+ghost use Rattle.codes.specs.{workingBy};
 
 // Where the nodes end and the functions begin.
 pub const FUNCTIONS: usize = syntax::MOST_BYTES;
@@ -41,14 +42,11 @@ pub fn held(function: u64, cell: u16) -> u16
     )
 }
 
-// The working number of what it holds.
-pub fn working(function: u64, cell: u16) -> u16
-    ensures { λ r. ⌜ r ≡ workingIn function cell ⌝ }
+// The working number of what it holds, by the number of the cell.
+pub fn working(function: u64, number: u16) -> u16
+    ensures { λ r. ⌜ r ≡ workingBy (shiftIn function) number ⌝ }
 {
-    codes::working(
-        (((function / 1099511627776) % 256) * 256) as u16,
-        held(function, cell),
-    )
+    codes::working((((function / 1099511627776) % 256) * 256) as u16, number)
 }
 
 // A parameter: how many values it has in bits 0 to 15, and the number of the first in bits 16 to 31.

@@ -29,7 +29,7 @@ use Rattle.codes.specs.{workingOf, lowestCode, foreign}
 use Rattle.codes.proofs.CodeMeaning.{ShortTraces, LengthsOf, OfDemand, workingContent, radix-means, value-own, value-digit, none-foreign, failed-foreign}
 use Rattle.decoding.specs.Words.{firstIn, valuesIn, lowestIn, kindWord}
 use Rattle.decoding.proofs.Packing.{short-lengths, values-in, lowest-in}
-use Rattle.evaluator.specs.{bound, functionAt, paramAt, nextIndex, lookupBy, argsIn}
+use Rattle.evaluator.specs.{bound, functionAt, paramAt, nextIndex, heldBy, lookupBy, argsIn}
 use Rattle.evaluator.proofs.Sets.{Sets}
 use Rattle.evaluator.proofs.CellMeaning.{first-cell, first-within, held-working, first-is}
 
@@ -38,7 +38,7 @@ use Rattle.evaluator.proofs.CellMeaning.{first-cell, first-within, held
 pub lookup-means : (P : Program) (t : Traces) (n : Lengths) (bytes words traces : List ℕ) → Sets P t n bytes words traces
     → (T : Table) (g : ℕ) (f : Function) (vs : List Value) → getElem? P g ≡ some f
     → lookupBy (functionAt words g) T (number t (f .params) vs) ≡ workingContent (lookup P t T g vs)
-unfolding lookupBy
+unfolding heldBy
 lookup-means P t n bytes words traces s T g f vs e =
     let place : firstIn (functionAt words g) + number t (f .params) vs ≡ cellOf t P g vs =
     rw (first-is s g f e) (sym (first-cell t P g f vs e)) in

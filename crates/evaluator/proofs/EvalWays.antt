@@ -8,7 +8,7 @@
 --   function-at, param-at, first-param-at        the words of a function, by their places
 --   args-count, one-stop, one-found              a call, by the number of its arguments
 --   next-index-is, lookup-is                     digits and numbers of configurations that need no cutting
---   lookup-past                                  what the table holds past its cells
+--   held-past                                    what the table holds past its cells
 use mathlib.Core.Path.{_≡_, refl, sym, ap, _∙_}
 use mathlib.Core.Bool.{Bool, true, false, cond}
 use mathlib.Core.List.{List}
@@ -20,8 +20,8 @@ use lib.Dec.{leb, ltb, eqb}
 use lib.ListN.{length, getD, List·getD-eq-default}
 use borrow.Author.Tests.{le-leb, lt-leb, ltb-true, ltb-false, eq-eqb, ne-eqb}
 use Rattle.codes.specs.{foreign, workingBy}
-use Rattle.decoding.specs.Words.{sortOf, secondPlace, thirdPlace, functionsFrom, stride, firstIn, leastIn, mostIn, shiftIn, workingIn, valuesIn, lowestIn}
-use Rattle.evaluator.specs.{functionAt, paramAt, digitBound, mostIndex, nextIndex, Digit, lookupBy, argsIn, sortBy, evalWord, evalAt, branchAt}
+use Rattle.decoding.specs.Words.{sortOf, secondPlace, thirdPlace, functionsFrom, stride, firstIn, leastIn, mostIn, heldIn, shiftIn, valuesIn, lowestIn}
+use Rattle.evaluator.specs.{functionAt, paramAt, digitBound, mostIndex, nextIndex, Digit, heldBy, lookupBy, argsIn, sortBy, evalWord, evalAt, branchAt}
 
 -- a number that is none of the first so many
 abbrev pub Apart : ℕ → ℕ → Type 0
@@ -202,20 +202,21 @@ next-index-is index radix digit h k e =
     ∙ ap (λ (r : ℕ). nextIndex index r (digit % digitBound)) (mod-eq-of-lt h)
     ∙ ap (λ (d : ℕ). nextIndex index radix d) (mod-eq-of-lt k)
 
-pub lookup-is : (function : ℕ) (T : List ℕ) (index : ℕ) {x : ℕ} → index < mostIndex → x ≡ lookupBy function T (index % mostIndex) → x ≡ lookupBy function T index
-lookup-is function T index h e = e ∙ ap (lookupBy function T) (mod-eq-of-lt h)
+pub lookup-is : (function : ℕ) (T : List ℕ) (index : ℕ) {held x : ℕ} → index < mostIndex → held ≡ heldBy function T (index % mostIndex)
+    → x ≡ workingBy (shiftIn function) held → x ≡ lookupBy function T index
+lookup-is function T index h e q = q ∙ ap (λ (c : ℕ). workingBy (shiftIn function) c) (e ∙ ap (λ (i : ℕ). heldBy function T i) (mod-eq-of-lt h))
 
 -- ---- What the table holds
 
 module _ (function : ℕ) (T : List ℕ) (index : ℕ) where
-  working-none : workingIn function 0 ≡ 0
-  working-none = go (ltb 0 (leastIn function)) (ltb (mostIn function) 0)
+  held-none : heldIn function 0 ≡ 0
+  held-none = go (ltb 0 (leastIn function)) (ltb (mostIn function) 0)
     where
-      go : (b c : Bool) → workingBy (shiftIn function) (cond b 0 (cond c 0 0)) ≡ 0
+      go : (b c : Bool) → _≡_ {A = ℕ} (cond b 0 (cond c 0 0)) 0
       go true c = refl
       go false true = refl
       go false false = refl
 
-  pub lookup-past : {first : ℕ} → first ≡ firstIn function → length T ≤ first + index → lookupBy function T index ≡ 0
-  unfolding lookupBy
-  lookup-past e h = ap (workingIn function) (ap (λ (f : ℕ). getD T (f + index) 0) (sym e) ∙ List·getD-eq-default T 0 h) ∙ working-none
+  pub held-past : {first : ℕ} → first ≡ firstIn function → length T ≤ first + index → heldBy function T index ≡ 0
+  unfolding heldBy
+  held-past e h = ap (heldIn function) (ap (λ (f : ℕ). getD T (f + index) 0) (sym e) ∙ List·getD-eq-default T 0 h) ∙ held-none

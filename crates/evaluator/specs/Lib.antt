@@ -7,9 +7,9 @@ use mathlib.Core.List.{List}
 use lib.Dec.{leb, eqb}
 use lib.ListN.{getD}
 use Rattle.semantics.specs.Cells.{undecidedCode, falseCode, trueCode}
-use Rattle.codes.specs.{headOf, tailOf, nullOf, foreign}
+use Rattle.codes.specs.{workingBy, headOf, tailOf, nullOf, foreign}
 use Rattle.decoding.specs.Words.{constantSort, paramSort, headSort, tailSort, nullSort, headParamSort, tailParamSort, nullParamSort, ifSort, ifParamSort, ifNullSort, ifHeadSort, callSort, callOneSort}
-use Rattle.decoding.specs.Words.{sortOf, paramOf, calleeOf, countOf, placesOf, constantOf, firstPlace, secondPlace, thirdPlace, functionsFrom, stride, firstIn, workingIn, valuesIn, lowestIn}
+use Rattle.decoding.specs.Words.{sortOf, paramOf, calleeOf, countOf, placesOf, constantOf, firstPlace, secondPlace, thirdPlace, functionsFrom, stride, firstIn, heldIn, shiftIn, valuesIn, lowestIn}
 
 -- ---- Functions
 
@@ -42,8 +42,12 @@ Digit kind c digit =
     × (lowestIn kind ≤ c → digit ≡ c - lowestIn kind)
     × ((digit + lowestIn kind) % 2 ^ 64 ≡ c)
 
-unfoldable pub lookupBy : ℕ → List ℕ → ℕ → ℕ
-lookupBy function table index = workingIn function (getD table (firstIn function + index) 0)
+-- what the table holds for a configuration: the number of a cell, and the working number
+unfoldable pub heldBy : ℕ → List ℕ → ℕ → ℕ
+heldBy function table index = heldIn function (getD table (firstIn function + index) 0)
+
+abbrev pub lookupBy : ℕ → List ℕ → ℕ → ℕ
+lookupBy function table index = workingBy (shiftIn function) (heldBy function table index)
 
 -- ---- Nodes
 

@@ -9,7 +9,7 @@ ghost use mathlib.Core.Path.{_≡_};
 ghost use Prim.Native.Nat.{_%_, _<_};
 ghost use lib.ListN.{getD};
 ghost use Rattle.decoding.specs.Words.{paramOf};
-ghost use Rattle.evaluator.specs.{digitBound, mostIndex, nextIndex, Digit, lookupBy, branchAt, callAt, callOneAt, evalWord};
+ghost use Rattle.evaluator.specs.{digitBound, mostIndex, nextIndex, Digit, heldBy, branchAt, callAt, callOneAt, evalWord};
 
 // The number of the outcome of a node. The table is a reference to its slice: it goes from call to call as one
 // word. The sorts stand here by number, all sixteen, so that no range is tested.
@@ -154,7 +154,7 @@ fn call(
         rest = rest / 4096;
         i += 1;
     }
-    lookup(words[place], table, index)
+    functions::working(words[place], lookup(words[place], table, index))
 }
 
 // As call, for one argument.
@@ -175,7 +175,7 @@ fn call_one(
     if functions::values(kind) <= digit {
         return value;
     }
-    lookup(words[place], table, digit)
+    functions::working(words[place], lookup(words[place], table, digit))
 }
 
 // The value of the parameter that a node names.
@@ -203,12 +203,12 @@ pub fn next_index(index: u64, radix: u64, digit: u64) -> u64
 // What the table holds for a configuration of a function, by the function's word. The configuration's number is
 // below 2 ^ 49; of others the lowest bits are taken.
 pub fn lookup(function: u64, table: &&[u16], index: u64) -> u16
-    ensures { λ r. ⌜ r ≡ lookupBy function (now (now (table .entry))) (index % mostIndex) ⌝ }
+    ensures { λ r. ⌜ r ≡ heldBy function (now (now (table .entry))) (index % mostIndex) ⌝ }
 {
     let cell = (functions::first_cell(function) + index % 562949953421312) as usize;
     let cells = *table;
     if cells.len() <= cell {
         return codes::UNDECIDED;
     }
-    functions::working(function, cells[cell])
+    functions::held(function, cells[cell])
 }

@@ -133,8 +133,8 @@ conditional-take-requires t c κs = (omega arith, omega arith)
 conditional-returns : (t : ℕ) → conditional-lts.Need-returns (conditional-claims t) (conditional-at t) conditional.Post
 conditional-returns t c =
     c .take .ensures
-    ∙ sym (fused-at _ _ _ _ _ _ 10 (λ (v : ℕ). nullOf v) (λ eval. refl) (c .before .before .before .before .if1 .taken) (c .before .before .before .before .before .param .ensures)
-    ∙ branch-long _ _ _ _ _ _ _ (c .before .before .before .if2 .taken) (c .before .before .if3 .taken) (c .before .third .ensures))
+    ∙ sym (fused-at _ _ _ _ _ _ 10 (λ (v : ℕ). nullOf v) (λ eval. refl) (c .before .before .before .if1 .taken) (c .before .before .before .before .param .ensures)
+    ∙ branch-long _ _ _ _ _ _ _ (c .before .before .if2 .taken) (c .before .third .ensures))
 
 conditional-null-requires : (t : ℕ) → conditional-lts.Need-null-requires (conditional-claims t) (conditional-at t) conditional.Post
 conditional-null-requires t c κs = search needs
@@ -163,7 +163,7 @@ conditional-returns-3 : (t : ℕ) → conditional-lts.Need-returns-3 (conditiona
 conditional-returns-3 t c =
     let a = c .before .before .before .before .before .before .before .args in
     (rw (c .before .head .ensures) at (c .branch2 .ensures))
-    ∙ sym (fused-at _ _ _ _ _ _ 11 (λ (v : ℕ). headIn (a .traces .now) (a .env .now) v) (λ eval. refl) (c .before .before .before .before .if4 .taken) (c .before .before .before .before .before .before .param .ensures))
+    ∙ sym (fused-at _ _ _ _ _ _ 11 (λ (v : ℕ). headIn (a .traces .now) (a .env .now) v) (λ eval. refl) (c .before .before .before .before .if3 .taken) (c .before .before .before .before .before .before .param .ensures))
 
 conditional-branch-requires-3 : (t : ℕ) → conditional-lts.Need-branch-requires-3 (conditional-claims t) (conditional-at t) conditional.Post
 conditional-branch-requires-3 t c κs = (omega arith, omega arith)
@@ -171,7 +171,7 @@ conditional-branch-requires-3 t c κs = (omega arith, omega arith)
 conditional-returns-4 : (t : ℕ) → conditional-lts.Need-returns-4 (conditional-claims t) (conditional-at t) conditional.Post
 conditional-returns-4 t c =
     let begun = c .before .before .before .before in
-    let sort : begun .args .sort ≡ 9 = omega (arith, begun .pre .1, c .before .if4 .left, c .before .before .if1 .left) in
+    let sort : begun .args .sort ≡ 9 = omega (arith, begun .pre .1, c .before .if3 .left, c .before .before .if1 .left) in
     c .branch3 .ensures ∙ sym (fused-at _ _ _ _ _ _ 9 (λ (v : ℕ). v) (λ eval. refl) sort (c .before .before .before .param .ensures))
 
 take-sub-left : (t : ℕ) → take-lts.Need-sub-left (take-claims t) (take-at t) take.Post

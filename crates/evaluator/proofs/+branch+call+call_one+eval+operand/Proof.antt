@@ -21,6 +21,7 @@ use Rattle.codes.proofs.head.Reads as head-reads
 use Rattle.codes.proofs.null.Reads as null-reads
 use Rattle.codes.proofs.tail.Reads as tail-reads
 use Rattle.decoding.proofs.functions.values.Reads as values-reads
+use Rattle.decoding.proofs.functions.working.Reads as working-reads
 use Rattle.decoding.proofs.nodes.at.Reads as at-reads
 use Rattle.decoding.proofs.nodes.callee.Reads as callee-reads
 use Rattle.decoding.proofs.nodes.constant.Reads as constant-reads
@@ -120,6 +121,8 @@ call-claims t = (
   next-index-reads.Learnt,
   lookup-reads.Asked,
   lookup-reads.Learnt,
+  working-reads.Asked,
+  working-reads.Learnt,
 )
 
 abbrev call-one-claims : ℕ → call-one-lts.Claims
@@ -136,6 +139,8 @@ call-one-claims t = (
   values-reads.Learnt,
   lookup-reads.Asked,
   lookup-reads.Learnt,
+  working-reads.Asked,
+  working-reads.Learnt,
 )
 
 abbrev eval-claims : ℕ → eval-lts.Claims
@@ -297,22 +302,31 @@ call-loop-again t c =
           (c .before .values2 .ensures) few (not-below _ _ _ digit (c .before .values2 .ensures) few) (next-index-is _ _ _ (omega (arith, c .before .values2 .ensures)) (omega (arith, few, c .before .values2 .ensures)) (c .next-index .ensures .0)) (c .next-index .ensures .1),
     )
 
+call-mul-working : (t : ℕ) → call-lts.Need-mul-working (call-claims t) (call-at t) call.Post call-Inv-loop call-μ-loop
+call-mul-working t c = omega (arith, c .before .loop .inv .0)
+
+call-element-copy-out-working : (t : ℕ) → call-lts.Need-element-copy-out-working (call-claims t) (call-at t) call.Post call-Inv-loop call-μ-loop
+call-element-copy-out-working t c = omega (arith, c .before .loop .inv .0)
+
 call-mul-lookup : (t : ℕ) → call-lts.Need-mul-lookup (call-claims t) (call-at t) call.Post call-Inv-loop call-μ-loop
-call-mul-lookup t c = omega (arith, c .before .loop .inv .0)
+call-mul-lookup t c = omega (arith, c .before .before .loop .inv .0)
 
 call-element-copy-out-lookup : (t : ℕ) → call-lts.Need-element-copy-out-lookup (call-claims t) (call-at t) call.Post call-Inv-loop call-μ-loop
-call-element-copy-out-lookup t c = omega (arith, c .before .loop .inv .0)
+call-element-copy-out-lookup t c = omega (arith, c .before .before .loop .inv .0)
 
 call-lookup-requires : (t : ℕ) → call-lts.Need-lookup-requires (call-claims t) (call-at t) call.Post call-Inv-loop call-μ-loop
 call-lookup-requires t c κs = search needs
 
+call-working-requires : (t : ℕ) → call-lts.Need-working-requires (call-claims t) (call-at t) call.Post call-Inv-loop call-μ-loop
+call-working-requires t c κs = search needs
+
 call-returns-2 : (t : ℕ) → call-lts.Need-returns-2 (call-claims t) (call-at t) call.Post call-Inv-loop call-μ-loop
 unfolding callAt
 call-returns-2 t c =
-    let at = c .before .before .before in
+    let at = c .before .before .before .before .before in
     let W = at .before .before .before .before .args .words .now in
-    lookup-is _ _ _ (at .loop .inv .1 .small) (c .lookup .ensures)
-    ∙ sym (along-end (at .loop .inv .1) (c .before .before .loop-test .left) (function-at W _ (at .loop .inv .0)))
+    lookup-is _ _ _ (at .loop .inv .1 .small) (c .before .lookup .ensures) (c .working .ensures)
+    ∙ sym (along-end (at .loop .inv .1) (c .before .before .before .before .loop-test .left) (function-at W _ (at .loop .inv .0)))
     ∙ args-count _ _ _ _ _ (at .before .before .count .ensures)
 
 call-one-callee-requires : (t : ℕ) → call-one-lts.Need-callee-requires (call-one-claims t) (call-one-at t) call-one.Post
@@ -355,25 +369,35 @@ call-one-returns t c =
     (c .before .before .before .before .operand .ensures ∙ ap (evalWord _ _ _ _ _) (c .before .before .before .before .before .first .ensures)) (c .before .before .digit .ensures) (c .before .values .ensures)
     (c .if1 .taken))
 
+call-one-mul-working : (t : ℕ) → call-one-lts.Need-mul-working (call-one-claims t) (call-one-at t) call-one.Post
+call-one-mul-working t c = omega (arith, c .before .before .before .before .before .before .callee .ensures)
+
+call-one-element-copy-out-working : (t : ℕ) → call-one-lts.Need-element-copy-out-working (call-one-claims t) (call-one-at t) call-one.Post
+call-one-element-copy-out-working t c = omega (arith, c .before .before .before .before .before .before .callee .ensures)
+
 call-one-mul-lookup : (t : ℕ) → call-one-lts.Need-mul-lookup (call-one-claims t) (call-one-at t) call-one.Post
-call-one-mul-lookup t c = omega (arith, c .before .before .before .before .before .before .callee .ensures)
+call-one-mul-lookup t c = omega (arith, c .before .before .before .before .before .before .before .callee .ensures)
 
 call-one-element-copy-out-lookup : (t : ℕ) → call-one-lts.Need-element-copy-out-lookup (call-one-claims t) (call-one-at t) call-one.Post
-call-one-element-copy-out-lookup t c = omega (arith, c .before .before .before .before .before .before .callee .ensures)
+call-one-element-copy-out-lookup t c = omega (arith, c .before .before .before .before .before .before .before .callee .ensures)
 
 call-one-lookup-requires : (t : ℕ) → call-one-lts.Need-lookup-requires (call-one-claims t) (call-one-at t) call-one.Post
 call-one-lookup-requires t c κs = search needs
 
+call-one-working-requires : (t : ℕ) → call-one-lts.Need-working-requires (call-one-claims t) (call-one-at t) call-one.Post
+call-one-working-requires t c κs = search needs
+
 call-one-returns-2 : (t : ℕ) → call-one-lts.Need-returns-2 (call-one-claims t) (call-one-at t) call-one.Post
 unfolding callOneAt
 call-one-returns-2 t c =
-    let called = c .before .before .before .before .before .before .before .before in
+    let tested = c .before .before .before .before in
+    let called = tested .before .before .before .before .before .before in
     let W = called .before .args .words .now in
     let place : 4096 + 8 * called .callee .result ≡ 4096 + 8 * calleeOf (called .before .args .node) = omega (arith, called .callee .ensures) in
-    lookup-is _ _ _ (omega (arith, c .before .before .if1 .left, c .before .before .before .values .ensures)) (c .lookup .ensures)
+    lookup-is _ _ _ (omega (arith, tested .if1 .left, tested .before .values .ensures)) (c .before .lookup .ensures) (c .working .ensures)
     ∙ sym (one-found _ _ _ _ _ (first-param-at W _ place)
-    (c .before .before .before .before .before .before .operand .ensures ∙ ap (evalWord _ _ _ _ _) (c .before .before .before .before .before .before .before .first .ensures)) (c .before .before .before .before .digit .ensures) (c .before .before .before .values .ensures)
-    (c .before .before .if1 .left) (function-at W _ place))
+    (tested .before .before .before .before .operand .ensures ∙ ap (evalWord _ _ _ _ _) (tested .before .before .before .before .before .first .ensures))
+    (tested .before .before .digit .ensures) (tested .before .values .ensures) (tested .if1 .left) (function-at W _ place))
 
 eval-returns : (t : ℕ) → eval-lts.Need-returns (eval-claims t) (eval-at t) eval.Post
 eval-returns t c = sym (eval-deep _ _ _ _ _ _ (c .if1 .taken))
@@ -628,9 +652,12 @@ pub +branch+call+call-one+eval+operand-spec : {M : Type 1} → statement M
     (call-add-i t)
     (call-loop-less t)
     (call-loop-again t)
+    (call-mul-working t)
+    (call-element-copy-out-working t)
     (call-mul-lookup t)
     (call-element-copy-out-lookup t)
     (call-lookup-requires t)
+    (call-working-requires t)
     (call-returns-2 t))
     (λ t. call-one-lts.spec (call-one-claims t)
     (call-one-at t)
@@ -646,9 +673,12 @@ pub +branch+call+call-one+eval+operand-spec : {M : Type 1} → statement M
     (call-one-digit-requires t)
     (call-one-values-requires t)
     (call-one-returns t)
+    (call-one-mul-working t)
+    (call-one-element-copy-out-working t)
     (call-one-mul-lookup t)
     (call-one-element-copy-out-lookup t)
     (call-one-lookup-requires t)
+    (call-one-working-requires t)
     (call-one-returns-2 t))
     (λ t. eval-lts.spec (eval-claims t)
     (eval-at t)

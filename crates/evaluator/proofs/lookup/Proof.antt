@@ -1,7 +1,7 @@
 -- `lookup` meets its contract, by its two cases.
 use mathlib.Core.Path.{sym}
-use Rattle.evaluator.specs.{lookupBy}
-use Rattle.evaluator.proofs.EvalWays.{lookup-past}
+use Rattle.evaluator.specs.{heldBy}
+use Rattle.evaluator.proofs.EvalWays.{held-past}
 use borrow.Author.Needs.{needs}
 use Rattle.evaluator.proofs.lookup.Statement.{statement}
 use Rattle.evaluator.proofs.lookup.Tie as tie
@@ -13,20 +13,20 @@ add-cell : tie.Need-add-cell
 add-cell c = search needs
 
 returns : tie.Need-returns
-returns c = sym (lookup-past _ _ _ (c .before .before .first-cell .ensures) (c .if1 .taken))
+returns c = sym (held-past _ _ _ (c .before .before .first-cell .ensures) (c .if1 .taken))
 
-mul-working : tie.Need-mul-working
-mul-working c = search needs
+mul-held : tie.Need-mul-held
+mul-held c = search needs
 
-shared-slice-read-working : tie.Need-shared-slice-read-working
-shared-slice-read-working c = search needs
+shared-slice-read-held : tie.Need-shared-slice-read-held
+shared-slice-read-held c = search needs
 
-working-requires : tie.Need-working-requires
-working-requires c κs = search needs
+held-requires : tie.Need-held-requires
+held-requires c κs = search needs
 
 returns-2 : tie.Need-returns-2
-unfolding lookupBy
-returns-2 c = rw (c .before .before .before .before .first-cell .ensures) at (c .working .ensures)
+unfolding heldBy
+returns-2 c = rw (c .before .before .before .before .first-cell .ensures) at (c .held .ensures)
 
 pub lookup-spec : {M : Type 1} → statement M
 lookup-spec =
@@ -35,7 +35,7 @@ lookup-spec =
     first-cell-requires
     add-cell
     returns
-    mul-working
-    shared-slice-read-working
-    working-requires
+    mul-held
+    shared-slice-read-held
+    held-requires
     returns-2)
