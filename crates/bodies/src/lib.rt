@@ -94,7 +94,7 @@ fn conditional(
             env,
             depth,
             node,
-            codes::head(traces, env[4], env[5], value),
+            codes::head(traces, env, value),
         );
     }
     branch(words, traces, table, env, depth, node, value)
@@ -153,7 +153,7 @@ fn call(
         rest = rest / 4096;
         i += 1;
     }
-    functions::working(words[place], lookup(words[place], table, index))
+    lookup(words[place], table, index)
 }
 
 // A call with one argument, if that is a leaf.
@@ -178,7 +178,7 @@ fn call_one(
     if functions::values(kind) <= digit {
         return value;
     }
-    functions::working(words[place], lookup(words[place], table, digit))
+    lookup(words[place], table, digit)
 }
 
 // The number of the outcome of a leaf: a constant, a parameter, its tl or its hd. NO_LEAF for other nodes.
@@ -193,7 +193,7 @@ fn leaf(traces: &[u8; codes::TRACES_BYTES], env: &[u16; 6], node: u64) -> u16
         return plain(env, node, sort);
     }
     if sort == nodes::HEAD_PARAM {
-        return codes::head(traces, env[4], env[5], param(env, node));
+        return codes::head(traces, env, param(env, node));
     }
     NO_LEAF
 }

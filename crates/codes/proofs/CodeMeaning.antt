@@ -7,9 +7,9 @@
 --   value-own, value-digit                  a value is not foreign to its kind, and what digit it has there
 --   none-foreign, failed-foreign            undecided and errors are foreign to every kind
 --   decided-means                           what a cell holds, by the result kind of its function
---   working-means, cell-working             from a cell to the working number, and back
+--   result-means, cell-working              from a cell to the working number, and back
 --   working-not-zero                        no outcome has the working number of undecided
-use Prim.Native.Nat.{ℕ, zero, suc, _+_, _-_, _<_, _≤_, _%_}
+use Prim.Native.Nat.{ℕ, zero, suc, _+_, _-_, _<_, _≤_, _%_, _*_, _/_}
 use native.Mathlib.Omega.{arith}
 use mathlib.Core.Path.{_≡_, refl, _∙_}
 use mathlib.Core.Bool.{Bool, true, false, cond}
@@ -25,7 +25,7 @@ use Rattle.semantics.specs.declared.Error.{Error}
 use Rattle.semantics.specs.declared.Error.the-variants.{Head, Tail}
 use Rattle.semantics.specs.declared.Outcome.{Outcome}
 use Rattle.semantics.specs.declared.Outcome.the-variants.{Truth, Suffix, Failed}
-use Rattle.semantics.specs.Language.{Kind, truth, list, Op, hd, tl, null, Traces, traceOf, Value, bit, suffix, given, inKind, Demand, only, anyList, opAllowed, operandDemand}
+use Rattle.semantics.specs.Language.{isGuard, Kind, truth, list, Op, hd, tl, null, Traces, traceOf, Value, bit, suffix, given, inKind, Demand, only, anyList, opAllowed, operandDemand}
 use Rattle.semantics.specs.Numbering.{kindSize, digitOf}
 use Rattle.semantics.specs.Cells.{undecidedCode, falseCode, trueCode, headCode, tailCode, suffixCode, codeOf, contentOf, ofKind, outcomeIn}
 use Rattle.semantics.specs.Bodies.{withValue, operated}
@@ -33,7 +33,7 @@ use Rattle.semantics.proofs.Demands.{same-contact, suffix-in, ofDemand, demand-
 use Rattle.semantics.proofs.Cells.{code-held}
 use Rattle.syntax.specs.Kinds.{kindNumber}
 use Rattle.codes.specs.declared.Lengths.{Lengths}
-use Rattle.codes.specs.{guardShift, guardCode, workingOf, mostTraceBytes, sampleCode, headBy, headOf, emptyCode, tailOf, nullOf, radixOf, lowestCode, foreign, leastCode, mostCode, decidedCode, shiftOf, workingBy, cellCode}
+use Rattle.codes.specs.{guardShift, guardCode, workingOf, mostTraceBytes, sampleCode, ramEnd, guardEnd, endOf, placeOf, emptyCode, headOf, tailOf, nullOf, radixOf, lowestCode, foreign, leastCode, mostCode, decidedCode, guardedCode, resultCode, cellCode}
 
 -- ---- Traces
 
@@ -44,15 +44,20 @@ pub record LengthsOf (t : Traces) (n : Lengths) : Type 0 where
   pub ram : n .ram ≡ length (t .ofRam)
   pub guard : n .guard ≡ length (t .ofGuard)
 
--- where the bytes of a trace begin
-abbrev pub bytesFrom : Contact → ℕ
-bytesFrom Ram = 0
-bytesFrom Guard = mostTraceBytes
+-- where the samples of a trace begin
+abbrev pub placesFrom : Contact → ℕ
+placesFrom Ram = 0
+placesFrom Guard = 8 * mostTraceBytes
 
 -- the bytes of both traces say their samples
 abbrev pub SaysTraces : Traces → List ℕ → Type 0
 SaysTraces t bytes = (c : Contact) (i : ℕ) → i < length (traceOf t c)
-    → sampleCode bytes (bytesFrom c) i ≡ cond (getD (traceOf t c) i false) trueCode falseCode
+    → sampleCode bytes (placesFrom c + i) ≡ cond (getD (traceOf t c) i false) trueCode falseCode
+
+-- an array of values has the numbers that places of samples are worked out from
+pub record EndsOf (t : Traces) (env : List ℕ) : Type 0 where
+  pub ram : getD env 4 0 ≡ length (t .ofRam) + ramEnd
+  pub guard : getD env 5 0 ≡ length (t .ofGuard) + guardEnd
 
 -- ---- Outcomes
 
@@ -105,27 +110,26 @@ module _ (t : Traces) (short : ShortTraces t) where
   within : (c : Contact) (k : ℕ) → T (ofDemand t anyList (Suffix c k)) → (k ≤ length (traceOf t c)) × (k ≤ mostSamples)
   within c k h = let l = suffix-in t c c k h .1 in (l, omega (arith, l, short c))
 
-  module _ (bytes : List ℕ) (says : SaysTraces t bytes) where
-    -- hd of a suffix reads the trace that its number says
-    head-there : (c : Contact) (k : ℕ) → k ≤ mostSamples
-        → headOf bytes (length (t .ofRam)) (length (t .ofGuard)) (workingOf (Suffix c k)) ≡ headBy bytes (bytesFrom c) (length (traceOf t c)) k
-    head-there Ram k h = simp (le-ltb (5 + k) 5 (omega arith), lt-ltb (5 + k) 8197 (omega arith), suffix-code 5 k)
-    head-there Guard k h = simp (le-ltb (8197 + k) 5 (omega arith), le-ltb (8197 + k) 8197 (omega arith), suffix-code 8197 k)
-
-    head-sample : (c : Contact) (k : ℕ) → suc k ≤ length (traceOf t c)
-        → headBy bytes (bytesFrom c) (length (traceOf t c)) (suc k) ≡ workingOf (Truth (getD (traceOf t c) (length (traceOf t c) - suc k) false))
-    head-sample c k h =
-        simp (ne-eqb (suc k) 0 (λ z. omega arith), le-ltb (length (traceOf t c)) (suc k) h)
-        (says c (length (traceOf t c) - suc k) (omega arith) ∙ truth-code (getD (traceOf t c) (length (traceOf t c) - suc k) false))
+  module _ (bytes env : List ℕ) (says : SaysTraces t bytes) (ends : EndsOf t env) where
+    -- the contact that a working number says, and the place that is worked out from it
+    end-there : (c : Contact) (k : ℕ) → k ≤ mostSamples → suc k ≤ length (traceOf t c)
+        → placeOf (endOf env (workingOf (Suffix c (suc k)))) (workingOf (Suffix c (suc k))) ≡ placesFrom c + (length (traceOf t c) - suc k)
+    end-there Ram k h l =
+        let bit : (5 + suc k) / 8192 % 2 ≡ 0 = omega arith in
+        rw (bit, ends .ram) (omega (arith, short Ram))
+    end-there Guard k h l =
+        let bit : (8197 + suc k) / 8192 % 2 ≡ 1 = omega arith in
+        rw (bit, ends .guard) (omega (arith, short Guard))
 
     pub head-means : (r : Option Outcome) → OfDemand t anyList r
-        → headOf bytes (length (t .ofRam)) (length (t .ofGuard)) (workingContent r) ≡ workingContent (withValue Failed r (operated t hd))
+        → headOf bytes env (workingContent r) ≡ workingContent (withValue Failed r (operated t hd))
     head-means none h = refl
     head-means (some (Truth b)) h = absurd (h (Truth b) refl)
-    head-means (some (Suffix c zero)) h = head-there c zero (omega arith)
+    head-means (some (Suffix c zero)) h = rw (le-ltb _ _ (suffix-least c zero), is-empty c)
     head-means (some (Suffix c (suc k))) h =
         let l = within c (suc k) (h (Suffix c (suc k)) refl) in
-        head-there c (suc k) (l .1) ∙ head-sample c k (l .0)
+        rw (le-ltb _ _ (suffix-least c (suc k)), not-empty c k (l .1), end-there c k (omega (arith, l .1)) (l .0))
+        (says c (length (traceOf t c) - suc k) (omega (arith, l .0)) ∙ truth-code (getD (traceOf t c) (length (traceOf t c) - suc k) false))
     head-means (some (Failed Head)) h = refl
     head-means (some (Failed Tail)) h = refl
 
@@ -239,30 +243,42 @@ decided-means {t} ls (list Guard) cell = rw (ls .guard) (decided-list t Guard ce
 
 -- ---- Working numbers
 
-suffix-shifted : (c : Contact) (k : ℕ) → k ≤ mostSamples → workingBy (shiftOf (kindNumber (list c))) (suffixCode + k) ≡ workingOf (Suffix c k)
-suffix-shifted Ram k h = simp (le-ltb (5 + k) 5 (omega arith)) (omega arith)
-suffix-shifted Guard k h = simp (le-ltb (5 + k) 5 (omega arith)) (omega arith)
+suffix-guarded : (k : ℕ) → k ≤ mostSamples → guardedCode (suffixCode + k) ≡ workingOf (Suffix Guard k)
+suffix-guarded k h = rw (le-ltb (suffixCode + k) suffixCode (omega arith)) (omega arith)
 
 suffix-cell : (c : Contact) (k : ℕ) → k ≤ mostSamples → cellCode (workingOf (Suffix c k)) ≡ suffixCode + k
 suffix-cell Ram k h = omega arith
 suffix-cell Guard k h = omega arith
 
 module _ (t : Traces) (short : ShortTraces t) where
-  working-code : (κ : Kind) (o : Outcome) → T (ofKind t κ o) → workingBy (shiftOf (kindNumber κ)) (codeOf o) ≡ workingOf o
-  working-code κ (Truth false) h = refl
-  working-code κ (Truth true) h = refl
-  working-code truth (Suffix c k) h = absurd h
-  working-code (list c′) (Suffix c k) h = let p = suffix-in t c′ c k h in rw (p .0) (suffix-shifted c k (omega (arith, p .1, short c′)))
-  working-code κ (Failed Head) h = refl
-  working-code κ (Failed Tail) h = refl
+  guarded-code : (o : Outcome) → T (ofKind t (list Guard) o) → guardedCode (codeOf o) ≡ workingOf o
+  guarded-code (Truth b) h = absurd h
+  guarded-code (Suffix Ram k) h = absurd h
+  guarded-code (Suffix Guard k) h = suffix-guarded k (omega (arith, suffix-in t Guard Guard k h .1, short Guard))
+  guarded-code (Failed Head) h = refl
+  guarded-code (Failed Tail) h = refl
 
-  pub working-means : (κ : Kind) (cell : ℕ)
-      → workingBy (shiftOf (kindNumber κ)) (contentOf (outcomeIn t κ cell)) ≡ workingContent (outcomeIn t κ cell)
-  working-means κ cell = go (outcomeIn t κ cell) refl
-    where
-      go : (r : Option Outcome) → outcomeIn t κ cell ≡ r → workingBy (shiftOf (kindNumber κ)) (contentOf r) ≡ workingContent r
-      go none e = refl
-      go (some o) e = working-code κ o (code-held t κ cell o e .1)
+  own-code : (κ : Kind) (o : Outcome) → isGuard κ ≡ false → T (ofKind t κ o) → codeOf o ≡ workingOf o
+  own-code κ (Truth b) e h = refl
+  own-code truth (Suffix c k) e h = absurd h
+  own-code (list Ram) (Suffix Ram k) e h = refl
+  own-code (list Ram) (Suffix Guard k) e h = absurd h
+  own-code (list Guard) (Suffix c k) e h = let z : _≡_ {A = ℕ} 0 1 = cc in absurd (omega arith)
+  own-code κ (Failed x) e h = refl
+
+  guarded-content : (r : Option Outcome) → OfDemand t (only (list Guard)) r → guardedCode (contentOf r) ≡ workingContent r
+  guarded-content none h = refl
+  guarded-content (some o) h = guarded-code o (h o refl)
+
+  own-content : (κ : Kind) → isGuard κ ≡ false → (r : Option Outcome) → OfDemand t (only κ) r → contentOf r ≡ workingContent r
+  own-content κ g none h = refl
+  own-content κ g (some o) h = own-code κ o g (h o refl)
+
+  -- what a call gives, by the result kind of its function
+  pub result-means : (κ : Kind) (r : Option Outcome) → OfDemand t (only κ) r → resultCode (kindNumber κ) (contentOf r) ≡ workingContent r
+  result-means truth = own-content truth refl
+  result-means (list Ram) = own-content (list Ram) refl
+  result-means (list Guard) = guarded-content
 
   pub cell-working : (κ : Kind) (o : Outcome) → T (ofKind t κ o) → cellCode (workingOf o) ≡ codeOf o
   cell-working κ (Truth false) h = refl

@@ -37,22 +37,33 @@ workingOf (Failed x) = codeOf (Failed x)
 abbrev pub mostTraceBytes : ℕ
 mostTraceBytes = 512
 
-abbrev pub sampleCode : List ℕ → ℕ → ℕ → ℕ
-sampleCode traces from i = cond (bitOf (i % 8) (getD traces (from + i / 8 % mostTraceBytes) 0)) trueCode falseCode
+-- sample i of both traces; the guard's come after 8 × 512 places of the ram's
+abbrev pub sampleCode : List ℕ → ℕ → ℕ
+sampleCode traces i = cond (bitOf (i % 8) (getD traces (i / 8 % 1024) 0)) trueCode falseCode
 
--- hd of a suffix by its length, of a trace of n samples whose bytes begin at `from`
-abbrev pub headBy : List ℕ → ℕ → ℕ → ℕ → ℕ
-headBy traces from n length =
-    cond (eqb length 0) headCode (cond (ltb n length) undecidedCode (sampleCode traces from (n - length)))
+-- An array of values has at 4 and 5 a number for each contact, from which the working number of a suffix is subtracted for the
+-- place of its oldest sample: the length of the contact's trace, and one of these.
+abbrev pub ramEnd : ℕ
+ramEnd = 5
 
-abbrev pub headOf : List ℕ → ℕ → ℕ → ℕ → ℕ
-headOf traces n m c =
-    cond (ltb c suffixCode) c
-    (cond (ltb c guardCode) (headBy traces 0 n (c - suffixCode)) (headBy traces mostTraceBytes m (c - guardCode)))
+abbrev pub guardEnd : ℕ
+guardEnd = 12293
+
+abbrev pub endOf : List ℕ → ℕ → ℕ
+endOf env c = getD env (4 + c / guardShift % 2) 0
+
+-- the place by that number; of numbers that no array and no suffix has, the lowest bits are taken
+abbrev pub placeOf : ℕ → ℕ → ℕ
+placeOf end c = (end + 65536 - c) % 65536
 
 -- whether a number is that of an empty list
 abbrev pub emptyCode : ℕ → Bool
 emptyCode c = eqb (c % guardShift) suffixCode
+
+abbrev pub headOf : List ℕ → List ℕ → ℕ → ℕ
+headOf traces env c =
+    cond (ltb c suffixCode) c
+    (cond (emptyCode c) headCode (sampleCode traces (placeOf (endOf env c) c)))
 
 abbrev pub tailOf : ℕ → ℕ
 tailOf c = cond (ltb c suffixCode) c (cond (emptyCode c) tailCode (c - 1))
@@ -98,12 +109,13 @@ mostCode kind n = cond (eqb kind truthKind) tailCode (lengthOf kind n + suffixCo
 abbrev pub decidedCode : ℕ → ℕ → ℕ → ℕ
 decidedCode least most cell = cond (ltb cell least) undecidedCode (cond (ltb most cell) undecidedCode cell)
 
--- the working number of what a cell of a kind holds: a suffix is shifted by so much
-abbrev pub shiftOf : ℕ → ℕ
-shiftOf kind = cond (eqb kind guardKind) guardShift 0
+-- the working number of what a cell holds: of a function with a guard list result a suffix is shifted, of others it is the
+-- cell's own
+abbrev pub guardedCode : ℕ → ℕ
+guardedCode cell = cond (ltb cell suffixCode) cell (cell % guardShift + guardShift)
 
-abbrev pub workingBy : ℕ → ℕ → ℕ
-workingBy shift cell = cond (ltb cell suffixCode) cell ((cell + shift) % 65536)
+abbrev pub resultCode : ℕ → ℕ → ℕ
+resultCode kind cell = cond (eqb kind guardKind) (guardedCode cell) cell
 
 -- the number that a cell holds for a working number
 abbrev pub cellCode : ℕ → ℕ

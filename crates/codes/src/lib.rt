@@ -1,8 +1,8 @@
 // Outcomes as the numbers that stand for them: hd, tl and null of them, and what a cell holds. In a working number a suffix
 // says of which trace it is; in a cell its function's kind does. Every function answers for all numbers.
 ghost use mathlib.Core.Path.{_≡_};
-ghost use Prim.Native.Nat.{_≤_, min};
-ghost use Rattle.codes.specs.{headOf, headBy, emptyCode, tailOf, nullOf, decidedCode, workingBy, cellCode, lengthOf, radixOf, sampleCode, leastCode, mostCode, lowestCode, shiftOf};
+ghost use Prim.Native.Nat.{min};
+ghost use Rattle.codes.specs.{headOf, placeOf, emptyCode, tailOf, nullOf, decidedCode, guardedCode, cellCode, lengthOf, radixOf, sampleCode, leastCode, mostCode, lowestCode};
 
 // The numbers of outcomes; a suffix of length k of the ram trace is SUFFIX + k, of the guard trace GUARD_SUFFIX + k.
 pub const UNDECIDED: u16 = 0;
@@ -27,45 +27,46 @@ pub const TRACE_BYTES: usize = 512;
 
 pub const TRACES_BYTES: usize = 1024;
 
+// What the length of each trace is added to for the numbers at 4 and 5 of an array of values.
+pub const RAM_END: u16 = SUFFIX;
+
+pub const GUARD_END: u16 = 12293;
+
 // The lengths of both traces.
 pub struct Lengths {
     pub ram: u16,
     pub guard: u16,
 }
 
-// hd of what its operand gave. `traces` has the bytes of both traces, and `n` and `m` are their lengths.
-pub fn head(traces: &[u8; TRACES_BYTES], n: u16, m: u16, operand: u16) -> u16
-    ensures { λ r. ⌜ r ≡ headOf (now (traces .entry)) n m operand ⌝ }
+// hd of what its operand gave. `traces` has the bytes of both traces; `env` has at 4 and 5, for each contact, the number from which
+// that of a suffix is subtracted for the place of its oldest sample.
+pub fn head(traces: &[u8; TRACES_BYTES], env: &[u16; 6], operand: u16) -> u16
+    ensures { λ r. ⌜ r ≡ headOf (now (traces .entry)) (now (env .entry)) operand ⌝ }
 {
     if operand < SUFFIX {
         return operand;
     }
-    if operand < GUARD_SUFFIX {
-        return head_of(traces, 0, n, operand - SUFFIX);
-    }
-    head_of(traces, TRACE_BYTES, m, operand - GUARD_SUFFIX)
-}
-
-// hd of a suffix by its length, of a trace of n samples whose bytes begin at a place.
-fn head_of(traces: &[u8; TRACES_BYTES], from: usize, n: u16, length: u16) -> u16
-    requires { ⌜ from ≤ 512 ⌝ }
-    ensures { λ r. ⌜ r ≡ headBy (now (traces .entry)) from n length ⌝ }
-{
-    if length == 0 {
+    if is_empty(operand) {
         return HEAD;
     }
-    if n < length {
-        return UNDECIDED;
-    }
-    sample(traces, from, n - length)
+    sample(
+        traces,
+        place(env[4 + ((operand / GUARD_SHIFT) % 2) as usize], operand),
+    )
 }
 
-// Sample i of that trace as a number. It is worked out without a branch, which a mixed trace would mislead.
-fn sample(traces: &[u8; TRACES_BYTES], from: usize, i: u16) -> u16
-    requires { ⌜ from ≤ 512 ⌝ }
-    ensures { λ r. ⌜ r ≡ sampleCode (now (traces .entry)) from i ⌝ }
+// The place of the oldest sample of a suffix, by the number of its contact in an array of values.
+fn place(end: u16, operand: u16) -> u16
+    ensures { λ r. ⌜ r ≡ placeOf end operand ⌝ }
 {
-    let byte = wide(traces[from + ((i / 8) % 512) as usize]);
+    ((end as u32 + 65536 - operand as u32) % 65536) as u16
+}
+
+// Sample i of both traces as a number. It is worked out without a branch, which a mixed trace would mislead.
+fn sample(traces: &[u8; TRACES_BYTES], i: u16) -> u16
+    ensures { λ r. ⌜ r ≡ sampleCode (now (traces .entry)) i ⌝ }
+{
+    let byte = wide(traces[((i / 8) % 1024) as usize]);
     (byte >> (i % 8)) % 2 + FALSE
 }
 
@@ -116,15 +117,14 @@ pub fn decided(least: u16, most: u16, cell: u16) -> u16
     cell
 }
 
-// The working number of what a cell holds, by the shift of its kind. Of a sum that no cell and no kind gives, the lowest bits
-// are taken.
-pub fn working(shift: u16, cell: u16) -> u16
-    ensures { λ r. ⌜ r ≡ workingBy shift cell ⌝ }
+// The working number of what a cell of a function with a guard list result holds.
+pub fn guarded(cell: u16) -> u16
+    ensures { λ r. ⌜ r ≡ guardedCode cell ⌝ }
 {
     if cell < SUFFIX {
         return cell;
     }
-    ((cell as u32 + shift as u32) % 65536) as u16
+    cell % GUARD_SHIFT + GUARD_SHIFT
 }
 
 // The number that a cell holds for a working number.
@@ -164,17 +164,6 @@ pub fn most(kind: u8, n: Lengths) -> u64
         TAIL as u64
     } else {
         (length(kind, n) as u64) + SUFFIX as u64
-    }
-}
-
-// By how much a suffix of a kind is shifted.
-pub fn shift(kind: u8) -> u64
-    ensures { λ r. ⌜ r ≡ shiftOf kind ⌝ }
-{
-    if kind == syntax::GUARD {
-        GUARD_SHIFT as u64
-    } else {
-        0
     }
 }
 

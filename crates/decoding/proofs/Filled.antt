@@ -43,22 +43,22 @@ module _ (code params functions : List ℕ) (count : ℕ) (n : Lengths) (z : Lis
   abbrev zeros : List ℕ
   zeros = replicate mostBytes 0
 
-  whole : words ≡ wordsDown code params zeros (length code) 0 (entriesUpto functions n (stride * count) z)
+  whole : words ≡ wordsDown code params functions zeros (length code) 0 (entriesUpto functions n (stride * count) z)
   unfolding wordsFilled
   whole = rw (min-eq-right short, min-eq-left few)
 
   pub node-filled : (at : ℕ) → at < length code
-      → getD words at 0 ≡ wordBy code params (endsDown code params (length code - (at + 1)) (at + 1) zeros) words at
+      → getD words at 0 ≡ wordBy code params functions (endsDown code params (length code - (at + 1)) (at + 1) zeros) words at
   node-filled at h =
       let room : 0 + length code ≤ length (entriesUpto functions n (stride * count) z) = omega (arith, entries-length functions n (stride * count) z) in
       let same : 0 + length code ≡ length code = omega arith in
       rw whole
-      (rw same at (word-there code params zeros (length code) 0 (entriesUpto functions n (stride * count) z) at room (omega arith) (omega arith)))
+      (rw same at (word-there code params functions zeros (length code) 0 (entriesUpto functions n (stride * count) z) at room (omega arith) (omega arith)))
 
   entry-filled : (k : ℕ) → k < stride * count → getD words (functionsFrom + k) 0 ≡ entryOf functions n k
   entry-filled k h =
       rw whole
-      (words-above code params zeros (length code) 0 (entriesUpto functions n (stride * count) z) (functionsFrom + k) (omega arith)
+      (words-above code params functions zeros (length code) 0 (entriesUpto functions n (stride * count) z) (functionsFrom + k) (omega arith)
       ∙ entry-there functions n (stride * count) z k (omega arith) h)
 
   pub function-filled : (g : ℕ) → g < count

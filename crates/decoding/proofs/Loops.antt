@@ -30,7 +30,7 @@ after-whole ends (suc left) place e h = absurd (omega arith)
 
 -- ---- The words of a program
 
-module _ (code params words₀ : List ℕ) (len : ℕ) where
+module _ (code params functions words₀ : List ℕ) (len : ℕ) where
   abbrev zeros : List ℕ
   zeros = replicate mostBytes 0
 
@@ -38,14 +38,14 @@ module _ (code params words₀ : List ℕ) (len : ℕ) where
   pub record Swept (E W : List ℕ) (at : ℕ) : Type 0 where
     pub below : at ≤ len
     pub ends : E ≡ endsDown code params (len - at) at zeros
-    pub words : W ≡ wordsDown code params zeros (len - at) at words₀
+    pub words : W ≡ wordsDown code params functions zeros (len - at) at words₀
 
   pub swept-start : Swept zeros words₀ len
   unfolding endsDown wordsDown
   swept-start = let none : len - len ≡ 0 = omega arith in record { below = omega arith; ends = rw none; words = rw none }
 
   pub swept-more : (at : ℕ) {ends words : List ℕ} {node : Node} {next word end count : ℕ} → Swept ends words at → 0 < at
-      → node ≡ nodeOf (getD code (at - 1) 0) → next ≡ getD words (at - 1 + 1) 0 → word ≡ decodedBy params ends (at - 1 + 1) next node
+      → node ≡ nodeOf (getD code (at - 1) 0) → next ≡ getD words (at - 1 + 1) 0 → word ≡ decodedBy params functions ends (at - 1 + 1) next node
       → count ≡ operandsOf params node → end ≡ endsAfter ends count (at - 1 + 1)
       → Swept (set ends (at - 1) end) (set words (at - 1) word) (at - 1)
   unfolding endsDown wordsDown endBy wordBy
@@ -58,7 +58,7 @@ module _ (code params words₀ : List ℕ) (len : ℕ) where
         words = simp (sub-one, k, add-one, w, x, n, u .ends, u .words);
       }
 
-  pub swept-whole : (at : ℕ) {ends words : List ℕ} → Swept ends words at → at ≤ 0 → words ≡ wordsDown code params zeros len 0 words₀
+  pub swept-whole : (at : ℕ) {ends words : List ℕ} → Swept ends words at → at ≤ 0 → words ≡ wordsDown code params functions zeros len 0 words₀
   swept-whole zero u h = let k : len - 0 ≡ len = omega arith in rw k at (u .words)
   swept-whole (suc at) u h = absurd (omega arith)
 

@@ -3,9 +3,9 @@
 --   first-packed, second-packed, third-packed             the fields of a node
 --   place-0 to place-3                                    its places, as a call goes through them
 --   constant-packed                                       the number of a constant
---   least-small, shift-small, lowest-small                the numbers of a kind fit into their bits
---   short-lengths                                        lengths of traces within the limit
---   first-in, held-in, working-in                         a function's first cell, what a cell of it holds, and its working number
+--   least-small, lowest-small                             the numbers of a kind fit into their bits
+--   short-lengths                                         lengths of traces within the limit
+--   first-in, held-in                                     a function's first cell, and what a cell of it holds
 --   values-in, lowest-in                                  a parameter's values
 use Prim.Native.Nat.{ℕ, _/_, _%_, _<_, _≤_}
 use native.Mathlib.Omega.{arith}
@@ -17,9 +17,9 @@ use Rattle.semantics.specs.declared.Contact.the-variants.{Ram, Guard}
 use Rattle.semantics.specs.Language.{Traces}
 use Rattle.syntax.specs.Kinds.{truthKind, guardKind}
 use Rattle.codes.specs.declared.Lengths.{Lengths}
-use Rattle.codes.specs.{Short, lengthOf, leastCode, mostCode, decidedCode, shiftOf, workingBy, radixOf, lowestCode}
+use Rattle.codes.specs.{Short, lengthOf, leastCode, mostCode, decidedCode, radixOf, lowestCode}
 use Rattle.codes.proofs.CodeMeaning.{ShortTraces, LengthsOf}
-use Rattle.decoding.specs.Words.{packed, sortOf, paramOf, calleeOf, countOf, placesOf, constantOf, firstPlace, secondPlace, thirdPlace, functionWord, firstIn, leastIn, shiftIn, mostIn, heldIn, workingIn, kindWord, valuesIn, lowestIn}
+use Rattle.decoding.specs.Words.{packed, sortOf, paramOf, calleeOf, countOf, placesOf, constantOf, firstPlace, secondPlace, thirdPlace, functionWord, firstIn, leastIn, mostIn, heldIn, kindWord, valuesIn, lowestIn}
 use Rattle.decoding.specs.Decoding.{constantBy}
 
 -- ---- Nodes
@@ -83,15 +83,8 @@ both : (P : ℕ → Type 0) (b : Bool) {x y : ℕ} → P x → P y → P (cond b
 both P true p q = p
 both P false p q = q
 
-pub least-small : (kind : ℕ) → leastCode kind < 256
-least-small kind = both (λ x. x < 256) (eqb kind truthKind) (omega arith) (omega arith)
-
-pub shift-small : (kind : ℕ) → shiftOf kind / 256 < 256
-shift-small kind = both (λ x. x / 256 < 256) (eqb kind guardKind) (omega arith) (omega arith)
-
--- a shift is a multiple of 256
-shift-whole : (kind : ℕ) → shiftOf kind % 256 ≡ 0
-shift-whole kind = both (λ x. x % 256 ≡ 0) (eqb kind guardKind) (omega arith) (omega arith)
+pub least-small : (kind : ℕ) → leastCode kind < 65536
+least-small kind = both (λ x. x < 65536) (eqb kind truthKind) (omega arith) (omega arith)
 
 pub lowest-small : (kind : ℕ) → lowestCode kind < 65536
 lowest-small kind =
@@ -122,20 +115,12 @@ module _ (first kind : ℕ) (n : Lengths) where
   unfolding functionWord
   least-in = omega (arith, least-small kind)
 
-  shift-in : shiftIn (functionWord first kind n) ≡ shiftOf kind
-  unfolding functionWord
-  shift-in = omega (arith, least-small kind, shift-small kind, shift-whole kind)
-
   most-in : Short n → mostIn (functionWord first kind n) ≡ mostCode kind n
   unfolding functionWord
-  most-in short = omega (arith, least-small kind, shift-small kind, most-small kind n short)
+  most-in short = omega (arith, least-small kind, most-small kind n short)
 
   pub held-in : (cell : ℕ) → Short n → heldIn (functionWord first kind n) cell ≡ decidedCode (leastCode kind) (mostCode kind n) cell
   held-in cell short = rw (least-in, most-in short)
-
-  pub working-in : (cell : ℕ) → Short n
-      → workingIn (functionWord first kind n) cell ≡ workingBy (shiftOf kind) (decidedCode (leastCode kind) (mostCode kind n) cell)
-  working-in cell short = rw (shift-in, held-in cell short)
 
 module _ (kind : ℕ) (n : Lengths) where
   pub values-in : Short n → valuesIn (kindWord kind n) ≡ radixOf kind n

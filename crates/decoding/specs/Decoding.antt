@@ -12,9 +12,9 @@ use Rattle.syntax.specs.declared.Node.{Node}
 use Rattle.syntax.specs.declared.Node.the-variants as node
 use Rattle.syntax.specs.Limits.{mostFunctions, mostBytes}
 use Rattle.syntax.specs.Bytes.{nodeOf}
-use Rattle.syntax.specs.Kinds.{kindIn}
+use Rattle.syntax.specs.Kinds.{guardKind, kindIn}
 use Rattle.rule.specs.Walk.{atMostFour}
-use Rattle.decoding.specs.Words.{constantSort, paramSort, headSort, tailSort, nullSort, headParamSort, tailParamSort, nullParamSort, ifSort, ifParamSort, ifNullSort, ifHeadSort, callSort, callOneSort, packed, sortOf, paramOf, functionsFrom, stride, functionWord, kindWord}
+use Rattle.decoding.specs.Words.{constantSort, paramSort, headSort, tailSort, nullSort, headParamSort, tailParamSort, nullParamSort, ifSort, ifParamSort, ifNullSort, ifHeadSort, callSort, callOneSort, callGuardSort, packed, sortOf, paramOf, functionsFrom, stride, functionWord, kindWord}
 
 -- ---- Where expressions end
 
@@ -77,35 +77,40 @@ abbrev pub placed : List ℕ → ℕ → ℕ → ℕ → ℕ
 placed ends sort small first =
     packed sort small first (endAt ends first) (endAt ends (endAt ends first)) (endAt ends (endAt ends (endAt ends first)))
 
--- a call of function g with so many arguments
-abbrev pub calledBy : List ℕ → ℕ → ℕ → ℕ → ℕ
-calledBy ends count g first = placed ends (cond (eqb count 1) callOneSort callSort) (g % 32 + 32 * count) first
+-- the sort of a call by the callee's result kind and the number of arguments
+abbrev pub callSortOf : ℕ → ℕ → ℕ
+callSortOf kind count = cond (eqb kind guardKind) callGuardSort (cond (eqb count 1) callOneSort callSort)
+
+-- a call of function g with so many arguments; `functions` has signatures from 32 on
+abbrev pub calledBy : List ℕ → List ℕ → ℕ → ℕ → ℕ → ℕ
+calledBy functions ends count g first =
+    placed ends (callSortOf (kindIn (getD functions (32 + g % 32) 0) 4) count) (g % 32 + 32 * count) first
 
 -- the word of a node: `first` is the place after it, `next` the word there
-abbrev pub decodedBy : List ℕ → List ℕ → ℕ → ℕ → Node → ℕ
-decodedBy params ends first next node.False = constantBy falseCode
-decodedBy params ends first next node.True = constantBy trueCode
-decodedBy params ends first next node.Empty = constantBy suffixCode
-decodedBy params ends first next node.EmptyGuard = constantBy guardCode
-decodedBy params ends first next (node.Param i) = packed paramSort i 0 0 0 0
-decodedBy params ends first next node.Head = unaryBy headSort headParamSort first next
-decodedBy params ends first next node.Tail = unaryBy tailSort tailParamSort first next
-decodedBy params ends first next node.Null = unaryBy nullSort nullParamSort first next
-decodedBy params ends first next node.If = placed ends (conditionalBy next) (paramOf next) first
-decodedBy params ends first next node.Cons = constantBy undecidedCode
-decodedBy params ends first next (node.Call g) = calledBy ends (argumentsOf params g) g first
-decodedBy params ends first next node.Unknown = constantBy undecidedCode
+abbrev pub decodedBy : List ℕ → List ℕ → List ℕ → ℕ → ℕ → Node → ℕ
+decodedBy params functions ends first next node.False = constantBy falseCode
+decodedBy params functions ends first next node.True = constantBy trueCode
+decodedBy params functions ends first next node.Empty = constantBy suffixCode
+decodedBy params functions ends first next node.EmptyGuard = constantBy guardCode
+decodedBy params functions ends first next (node.Param i) = packed paramSort i 0 0 0 0
+decodedBy params functions ends first next node.Head = unaryBy headSort headParamSort first next
+decodedBy params functions ends first next node.Tail = unaryBy tailSort tailParamSort first next
+decodedBy params functions ends first next node.Null = unaryBy nullSort nullParamSort first next
+decodedBy params functions ends first next node.If = placed ends (conditionalBy next) (paramOf next) first
+decodedBy params functions ends first next node.Cons = constantBy undecidedCode
+decodedBy params functions ends first next (node.Call g) = calledBy functions ends (argumentsOf params g) g first
+decodedBy params functions ends first next node.Unknown = constantBy undecidedCode
 
 -- the word at a place, by the words and the ends after it
-unfoldable pub wordBy : List ℕ → List ℕ → List ℕ → List ℕ → ℕ → ℕ
-wordBy code params ends words at = decodedBy params ends (at + 1) (getD words (at + 1) 0) (nodeOf (getD code at 0))
+unfoldable pub wordBy : List ℕ → List ℕ → List ℕ → List ℕ → List ℕ → ℕ → ℕ
+wordBy code params functions ends words at = decodedBy params functions ends (at + 1) (getD words (at + 1) 0) (nodeOf (getD code at 0))
 
 -- the words at so many places from a place on, worked out backwards from the last, with the ends
-unfoldable pub wordsDown : List ℕ → List ℕ → List ℕ → ℕ → ℕ → List ℕ → List ℕ
-wordsDown code params ends zero at words = words
-wordsDown code params ends (suc k) at words =
-    let later = wordsDown code params ends k (at + 1) words in
-    set later at (wordBy code params (endsDown code params k (at + 1) ends) later at)
+unfoldable pub wordsDown : List ℕ → List ℕ → List ℕ → List ℕ → ℕ → ℕ → List ℕ → List ℕ
+wordsDown code params functions ends zero at words = words
+wordsDown code params functions ends (suc k) at words =
+    let later = wordsDown code params functions ends k (at + 1) words in
+    set later at (wordBy code params functions (endsDown code params k (at + 1) ends) later at)
 
 -- ---- Functions
 
@@ -126,5 +131,5 @@ entriesUpto functions n (suc k) words = set (entriesUpto functions n k words) (f
 -- passed over
 unfoldable pub wordsFilled : List ℕ → List ℕ → List ℕ → ℕ → Lengths → List ℕ → List ℕ
 wordsFilled program params functions count n words =
-    wordsDown program params (replicate mostBytes 0) (min mostBytes (length program)) 0
+    wordsDown program params functions (replicate mostBytes 0) (min mostBytes (length program)) 0
     (entriesUpto functions n (stride * min count mostFunctions) words)

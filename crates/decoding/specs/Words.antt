@@ -2,12 +2,12 @@
 -- is put into a word is read from it.
 use Prim.Native.Nat.{ℕ, _+_, _*_, _/_, _%_}
 use Rattle.codes.specs.declared.Lengths.{Lengths}
-use Rattle.codes.specs.{leastCode, mostCode, decidedCode, shiftOf, workingBy, radixOf, lowestCode}
+use Rattle.codes.specs.{leastCode, mostCode, decidedCode, radixOf, lowestCode}
 
 -- ---- Nodes
 
 -- The sorts of decoded nodes. hd, tl and null of a parameter have sorts of their own; so has an if whose condition is a
--- parameter, or null or hd of one, and a call with one argument.
+-- parameter, or null or hd of one, a call with one argument, and a call of a function with a guard list result.
 abbrev pub constantSort : ℕ
 constantSort = 0
 
@@ -49,6 +49,9 @@ callSort = 12
 
 abbrev pub callOneSort : ℕ
 callOneSort = 13
+
+abbrev pub callGuardSort : ℕ
+callGuardSort = 14
 
 -- A node's word: its sort in bits 0 to 3, a small number in bits 8 to 15, four places of 12 bits above. The small number
 -- is a parameter, or of a call the callee and 32 times the number of arguments. The places are those of the operands, in
@@ -104,23 +107,16 @@ stride = 8
 abbrev pub mostWords : ℕ
 mostWords = 4352
 
--- the first cell of a function, in bits 0 to 31; above it the least number of an outcome of its kind in 8 bits, the shift of its
--- kind in 8 bits, which has 256 times what stands there, and the most number of an outcome
+-- the first cell of a function, in bits 0 to 31, and above it the least and the most number of an outcome of its kind
 unfoldable pub functionWord : ℕ → ℕ → Lengths → ℕ
 functionWord first kind n =
-    first % 4294967296
-    + leastCode kind * 4294967296
-    + (shiftOf kind / 256) * 1099511627776
-    + (mostCode kind n % 65536) * 281474976710656
+    first % 4294967296 + leastCode kind * 4294967296 + (mostCode kind n % 65536) * 281474976710656
 
 abbrev pub firstIn : ℕ → ℕ
 firstIn w = w % 4294967296
 
 abbrev pub leastIn : ℕ → ℕ
-leastIn w = w / 4294967296 % 256
-
-abbrev pub shiftIn : ℕ → ℕ
-shiftIn w = w / 1099511627776 % 256 * 256
+leastIn w = w / 4294967296 % 65536
 
 abbrev pub mostIn : ℕ → ℕ
 mostIn w = w / 281474976710656
@@ -128,10 +124,6 @@ mostIn w = w / 281474976710656
 -- what a cell of the function holds
 abbrev pub heldIn : ℕ → ℕ → ℕ
 heldIn w cell = decidedCode (leastIn w) (mostIn w) cell
-
--- the working number of that
-abbrev pub workingIn : ℕ → ℕ → ℕ
-workingIn w cell = workingBy (shiftIn w) (heldIn w cell)
 
 -- how many values a parameter has, in bits 0 to 15, and above it the number of the first
 unfoldable pub kindWord : ℕ → Lengths → ℕ

@@ -1,8 +1,7 @@
 // The words of functions: how they are made and read.
 use codes::Lengths;
 ghost use mathlib.Core.Path.{_≡_};
-ghost use Rattle.decoding.specs.Words.{functionWord, kindWord, firstIn, heldIn, shiftIn, valuesIn, lowestIn};
-ghost use Rattle.codes.specs.{workingBy};
+ghost use Rattle.decoding.specs.Words.{functionWord, kindWord, firstIn, heldIn, valuesIn, lowestIn};
 
 // Where the nodes end and the functions begin.
 pub const FUNCTIONS: usize = syntax::MOST_BYTES;
@@ -13,14 +12,12 @@ pub const STRIDE: usize = 8;
 // How many words there are: those of 32 functions after the nodes.
 pub const WORDS: usize = FUNCTIONS + STRIDE * 32;
 
-// A function: its first cell in bits 0 to 31, then the least number of an outcome of its kind in 8 bits, the shift of its kind,
-// divided by 256, in 8 bits, and the most number of an outcome.
+// A function: its first cell in bits 0 to 31, then the least and the most number of an outcome of its kind.
 pub fn function(first: u64, kind: u8, n: Lengths) -> u64
     ensures { λ r. ⌜ r ≡ functionWord first kind n ⌝ }
 {
     first % 4294967296
         + codes::least(kind) * 4294967296
-        + (codes::shift(kind) / 256) * 1099511627776
         + (codes::most(kind, n) % 65536) * 281474976710656
 }
 
@@ -36,17 +33,10 @@ pub fn held(function: u64, cell: u16) -> u16
     ensures { λ r. ⌜ r ≡ heldIn function cell ⌝ }
 {
     codes::decided(
-        ((function / 4294967296) % 256) as u16,
+        ((function / 4294967296) % 65536) as u16,
         (function / 281474976710656) as u16,
         cell,
     )
-}
-
-// The working number of what it holds, by the number of the cell.
-pub fn working(function: u64, number: u16) -> u16
-    ensures { λ r. ⌜ r ≡ workingBy (shiftIn function) number ⌝ }
-{
-    codes::working((((function / 1099511627776) % 256) * 256) as u16, number)
 }
 
 // A parameter: how many values it has in bits 0 to 15, and the number of the first in bits 16 to 31.

@@ -35,6 +35,8 @@ pub const CALL: u64 = 12;
 
 pub const CALL_ONE: u64 = 13;
 
+pub const CALL_GUARD: u64 = 14;
+
 // A node: its sort in bits 0 to 3, a small number in bits 8 to 15, and four places of 12 bits. The small
 // number is a parameter, or of a call the callee and 32 times the number of arguments. The places are those
 // of the operands, in their order; of a constant the first two have its number, the lowest 12 bits in the first.

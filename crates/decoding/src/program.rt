@@ -11,7 +11,7 @@ ghost use Prim.Native.Nat.{_*_, _<_, _≤_, min};
 ghost use lib.ListN.{length, replicate};
 ghost use Rattle.syntax.specs.Limits.{mostFunctions, mostParams, mostBytes};
 ghost use Rattle.decoding.specs.Words.{stride};
-ghost use Rattle.decoding.specs.Decoding.{endAt, endsAfter, argumentsOf, operandsOf, constantBy, unaryBy, conditionalBy, placed, calledBy};
+ghost use Rattle.decoding.specs.Decoding.{endAt, endsAfter, argumentsOf, operandsOf, constantBy, unaryBy, conditionalBy, placed, callSortOf, calledBy};
 ghost use Rattle.decoding.specs.Decoding.{decodedBy, entryOf, entriesUpto, wordsDown, wordsFilled};
 
 // Where an expression ends that starts past the bytes of a program.
@@ -31,7 +31,7 @@ pub fn fill(
     ensures { λ _. ⌜ now (words .exit) ≡ wordsFilled (now (program .entry)) (now (params .entry)) (now (functions .entry)) count n (now (words .entry)) ⌝ }
 {
     put_functions(functions, count, n, words);
-    put_nodes(program, params, words);
+    put_nodes(program, params, functions, words);
 }
 
 // Writes the words of so many functions, at most 32.
@@ -62,8 +62,8 @@ fn entry(functions: &[u64; 96], n: Lengths, k: usize) -> u64
 
 // Decodes a program from its last byte to its first, each node by those after it. Bytes that begin no
 // expression are decoded too; nothing leads to them.
-fn put_nodes(program: &[u8], params: &[u8; 32], words: &mut [u64; WORDS])
-    ensures { λ _. ⌜ now (words .exit) ≡ wordsDown (now (program .entry)) (now (params .entry)) (replicate mostBytes 0) (min mostBytes (length (now (program .entry)))) 0 (now (words .entry)) ⌝ }
+fn put_nodes(program: &[u8], params: &[u8; 32], functions: &[u64; 96], words: &mut [u64; WORDS])
+    ensures { λ _. ⌜ now (words .exit) ≡ wordsDown (now (program .entry)) (now (params .entry)) (now (functions .entry)) (replicate mostBytes 0) (min mostBytes (length (now (program .entry)))) 0 (now (words .entry)) ⌝ }
 {
     let mut ends = [0u16; syntax::MOST_BYTES];
     let mut at = codes::smaller(syntax::MOST_BYTES, program.len());
@@ -71,7 +71,7 @@ fn put_nodes(program: &[u8], params: &[u8; 32], words: &mut [u64; WORDS])
         at -= 1;
         let node = syntax::node_of(program[at]);
         let next = words[at + 1];
-        words[at] = decoded(params, &ends, (at + 1) as u16, next, node);
+        words[at] = decoded(params, functions, &ends, (at + 1) as u16, next, node);
         ends[at] = end_after(&ends, operands(params, node), (at + 1) as u16);
     }
 }
@@ -79,12 +79,13 @@ fn put_nodes(program: &[u8], params: &[u8; 32], words: &mut [u64; WORDS])
 // The word of a node, by the place after it, the ends of the expressions from there on and the word there.
 fn decoded(
     params: &[u8; 32],
+    functions: &[u64; 96],
     ends: &[u16; syntax::MOST_BYTES],
     first: u16,
     next: u64,
     node: Node,
 ) -> u64
-    ensures { λ r. ⌜ r ≡ decodedBy (now (params .entry)) (now (ends .entry)) first next node ⌝ }
+    ensures { λ r. ⌜ r ≡ decodedBy (now (params .entry)) (now (functions .entry)) (now (ends .entry)) first next node ⌝ }
 {
     match node {
         Node::False => constant(codes::FALSE),
@@ -97,7 +98,7 @@ fn decoded(
         Node::Null => unary(nodes::NULL, nodes::NULL_PARAM, first, next),
         Node::If => with_operands(ends, conditional(next), nodes::param(next) as u64, first),
         Node::Cons => constant(codes::UNDECIDED),
-        Node::Call(g) => call(params, ends, g, first),
+        Node::Call(g) => call(params, functions, ends, g, first),
         Node::Unknown => constant(codes::UNDECIDED),
     }
 }
@@ -137,16 +138,37 @@ fn conditional(condition: u64) -> u64
 }
 
 // A call of function g.
-fn call(params: &[u8; 32], ends: &[u16; syntax::MOST_BYTES], g: u8, first: u16) -> u64
-    ensures { λ r. ⌜ r ≡ calledBy (now (ends .entry)) (argumentsOf (now (params .entry)) g) g first ⌝ }
+fn call(
+    params: &[u8; 32],
+    functions: &[u64; 96],
+    ends: &[u16; syntax::MOST_BYTES],
+    g: u8,
+    first: u16,
+) -> u64
+    ensures { λ r. ⌜ r ≡ calledBy (now (functions .entry)) (now (ends .entry)) (argumentsOf (now (params .entry)) g) g first ⌝ }
 {
     let count = arguments(params, g);
-    let sort = if count == 1 {
+    let result = syntax::kind_at(functions[32 + (g % 32) as usize], 4);
+    with_operands(
+        ends,
+        call_sort(result, count),
+        (g % 32) as u64 + 32 * count,
+        first,
+    )
+}
+
+// The sort of a call, by the callee's result kind and the number of arguments.
+fn call_sort(result: u8, count: u64) -> u64
+    ensures { λ r. ⌜ r ≡ callSortOf result count ⌝ }
+{
+    if result == syntax::GUARD {
+        return nodes::CALL_GUARD;
+    }
+    if count == 1 {
         nodes::CALL_ONE
     } else {
         nodes::CALL
-    };
-    with_operands(ends, sort, (g % 32) as u64 + 32 * count, first)
+    }
 }
 
 // A node whose operands stand one after the other from a place on.

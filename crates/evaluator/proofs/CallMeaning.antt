@@ -18,7 +18,7 @@ use Rattle.semantics.specs.declared.Outcome.the-variants.{Truth, Suffix, Failed
 use Rattle.semantics.specs.Language.{Kind, Function, Program, Traces, Value, bit, suffix, given, inKind, InKinds, only}
 use Rattle.semantics.specs.Rules.{Arguments, values, failed}
 use Rattle.semantics.specs.Numbering.{kindSize, digitOf, size, number, cellOf, mostCells}
-use Rattle.semantics.specs.Cells.{outcomeIn}
+use Rattle.semantics.specs.Cells.{contentOf, outcomeIn}
 use Rattle.semantics.specs.Bodies.{withValue, withValues}
 use Rattle.semantics.specs.Visits.{Table, lookup}
 use Rattle.semantics.proofs.Numbering.{size-pos, number-lt}
@@ -29,22 +29,22 @@ use Rattle.codes.specs.{workingOf, lowestCode, foreign}
 use Rattle.codes.proofs.CodeMeaning.{ShortTraces, LengthsOf, OfDemand, workingContent, radix-means, value-own, value-digit, none-foreign, failed-foreign}
 use Rattle.decoding.specs.Words.{firstIn, valuesIn, lowestIn, kindWord}
 use Rattle.decoding.proofs.Packing.{short-lengths, values-in, lowest-in}
-use Rattle.evaluator.specs.{bound, functionAt, paramAt, nextIndex, heldBy, lookupBy, argsIn}
+use Rattle.evaluator.specs.{bound, functionAt, paramAt, nextIndex, lookupBy, argsIn}
 use Rattle.evaluator.proofs.Sets.{Sets}
-use Rattle.evaluator.proofs.CellMeaning.{first-cell, first-within, held-working, first-is}
+use Rattle.evaluator.proofs.CellMeaning.{first-cell, first-within, held-means, first-is}
 
 -- ---- The look-up
 
 pub lookup-means : (P : Program) (t : Traces) (n : Lengths) (bytes words traces : List ℕ) → Sets P t n bytes words traces
     → (T : Table) (g : ℕ) (f : Function) (vs : List Value) → getElem? P g ≡ some f
-    → lookupBy (functionAt words g) T (number t (f .params) vs) ≡ workingContent (lookup P t T g vs)
-unfolding heldBy
+    → lookupBy (functionAt words g) T (number t (f .params) vs) ≡ contentOf (lookup P t T g vs)
+unfolding lookupBy
 lookup-means P t n bytes words traces s T g f vs e =
     let place : firstIn (functionAt words g) + number t (f .params) vs ≡ cellOf t P g vs =
     rw (first-is s g f e) (sym (first-cell t P g f vs e)) in
-    held-working s g f e (getD T (firstIn (functionAt words g) + number t (f .params) vs) 0)
-    ∙ ap (λ (c : ℕ). workingContent (outcomeIn t (f .result) (getD T c 0))) place
-    ∙ ap workingContent (sym (lookup-held P t T g vs f e))
+    held-means s g f e (getD T (firstIn (functionAt words g) + number t (f .params) vs) 0)
+    ∙ ap (λ (c : ℕ). contentOf (outcomeIn t (f .result) (getD T c 0))) place
+    ∙ ap contentOf (sym (lookup-held P t T g vs f e))
 
 -- ---- One more digit
 
@@ -77,18 +77,18 @@ with-rest v (some (failed x)) k = refl
 -- an argument by its number c, and what comes later by the number of the arguments so far
 module _ (t : Traces) (κ : Kind) (index : ℕ) (low : index < bound) (c : ℕ) (later : ℕ → ℕ)
     (rs : Option Arguments) (k : List Value → Option Outcome)
-    (more : (v : Value) → dec.T (inKind t κ v) → later (index * kindSize t κ + digitOf v) ≡ workingContent (withValues Failed rs (λ ws. k (v ∷ ws)))) where
+    (more : (v : Value) → dec.T (inKind t κ v) → later (index * kindSize t κ + digitOf v) ≡ contentOf (withValues Failed rs (λ ws. k (v ∷ ws)))) where
   -- what a call makes of an argument
   abbrev taken : ℕ
   taken = cond (foreign (lowestCode (kindNumber κ)) (kindSize t κ) c) c (later (nextIndex index (kindSize t κ) (c - lowestCode (kindNumber κ))))
 
   value-means : (v : Value) → dec.T (inKind t κ v) → c ≡ workingOf (given v)
-      → taken ≡ workingContent (withValues Failed (withValues failed rs (λ ws. some (values (v ∷ ws)))) k)
+      → taken ≡ contentOf (withValues Failed (withValues failed rs (λ ws. some (values (v ∷ ws)))) k)
   value-means v h e =
       rw (e, value-own t κ v h, value-digit t κ v h, next-index index (kindSize t κ) (digitOf v) low, with-rest v rs k) (more v h)
 
   arg-means : (r : Option Outcome) → OfDemand t (only κ) r → c ≡ workingContent r
-      → taken ≡ workingContent (withValues Failed (withValue failed r (λ v. withValues failed rs (λ ws. some (values (v ∷ ws))))) k)
+      → taken ≡ contentOf (withValues Failed (withValue failed r (λ v. withValues failed rs (λ ws. some (values (v ∷ ws))))) k)
   arg-means none h e = rw (e, none-foreign t κ)
   arg-means (some (Truth b)) h e = value-means (bit b) (h (Truth b) refl) e
   arg-means (some (Suffix a m)) h e = value-means (suffix a m) (h (Suffix a m) refl) e
@@ -99,7 +99,7 @@ module _ (t : Traces) (κ : Kind) (index : ℕ) (low : index < bound) (c : ℕ) 
 pub record Due (t : Traces) (n : Lengths) (words : List ℕ) (T : Table) (g : ℕ) (κs : List Kind) (i index : ℕ) (k : List Value → Option Outcome) : Type 0 where
   pub kinds : (j : ℕ) (κ : Kind) → getElem? κs j ≡ some κ → paramAt words g (i + j) ≡ kindWord (kindNumber κ) n
   pub fits : suc index * size t κs ≤ mostCells
-  pub found : (vs : List Value) → InKinds t κs vs → lookupBy (functionAt words g) T (index * size t κs + number t κs vs) ≡ workingContent (k vs)
+  pub found : (vs : List Value) → InKinds t κs vs → lookupBy (functionAt words g) T (index * size t κs + number t κs vs) ≡ contentOf (k vs)
 
 -- at first all are due
 pub due-first : (P : Program) (t : Traces) (n : Lengths) (bytes words traces : List ℕ) → Sets P t n bytes words traces
@@ -125,9 +125,9 @@ module _ (t : Traces) (n : Lengths) (words : List ℕ) (T : Table) (g i index : 
         → rest % 4096 ≡ at → eval at ≡ workingContent r
         → ((v : Value) → dec.T (inKind t κ v)
         → argsIn words T eval g (length κs) (suc i) (index * kindSize t κ + digitOf v) (rest / 4096)
-        ≡ workingContent (withValues Failed rs (λ vs. k (v ∷ vs))))
+        ≡ contentOf (withValues Failed rs (λ vs. k (v ∷ vs))))
         → argsIn words T eval g (length (κ ∷ κs)) i index rest
-        ≡ workingContent (withValues Failed (withValue failed r (λ v. withValues failed rs (λ vs. some (values (v ∷ vs))))) k)
+        ≡ contentOf (withValues Failed (withValue failed r (λ v. withValues failed rs (λ vs. some (values (v ∷ vs))))) k)
     unfolding argsIn
     args-one short ls eval at rest r rs h place q more =
         let low : index < bound = omega (arith, below-product (suc index) (size t (κ ∷ κs)) mostCells (size-pos t (κ ∷ κs)) (due .fits)) in
@@ -139,7 +139,7 @@ module _ (t : Traces) (n : Lengths) (words : List ℕ) (T : Table) (g i index : 
         rw (place, many, lowest, add-one i)
         (arg-means t κ index low (eval at) (λ next. argsIn words T eval g (length κs) (suc i) next (rest / 4096)) rs k more r h q)
 
-  pub args-none : Due t n words T g [] i index k → (eval : ℕ → ℕ) (rest : ℕ) → argsIn words T eval g 0 i index rest ≡ workingContent (k [])
+  pub args-none : Due t n words T g [] i index k → (eval : ℕ → ℕ) (rest : ℕ) → argsIn words T eval g 0 i index rest ≡ contentOf (k [])
   unfolding argsIn
   args-none due eval rest =
       let same : index * 1 + 0 ≡ index = omega arith in

@@ -3,12 +3,11 @@
 --   first-within     a function's cells lie among those of the program
 --   config-first     the configuration of a cell of a function
 --   held-means       the number of what a cell of a function holds
---   held-working     the working number of it
 --   first-is         where a function's cells begin
 use Prim.Native.Nat.{ℕ, zero, suc, _+_, _≤_, _<_}
 use native.Mathlib.Nat.{mod-eq-of-lt}
 use native.Mathlib.Omega.{arith}
-use mathlib.Core.Path.{_≡_, ap, _∙_}
+use mathlib.Core.Path.{_≡_, _∙_}
 use mathlib.Core.List.{List, [], _∷_}
 use mathlib.Core.Option.{some}
 use lib.ListN.{getElem?}
@@ -18,10 +17,9 @@ use Rattle.semantics.specs.Cells.{contentOf, outcomeIn}
 use Rattle.semantics.proofs.Numbering.{number-values, values-in, config-cell}
 use Rattle.syntax.specs.Kinds.{kindNumber}
 use Rattle.codes.specs.declared.Lengths.{Lengths}
-use Rattle.codes.specs.{shiftOf, workingBy}
-use Rattle.codes.proofs.CodeMeaning.{workingContent, decided-means, working-means}
-use Rattle.decoding.specs.Words.{firstIn, heldIn, workingIn}
-use Rattle.decoding.proofs.Packing.{short-lengths, first-in, held-in, working-in}
+use Rattle.codes.proofs.CodeMeaning.{decided-means}
+use Rattle.decoding.specs.Words.{firstIn, heldIn}
+use Rattle.decoding.proofs.Packing.{short-lengths, first-in, held-in}
 use Rattle.evaluator.specs.{functionAt}
 use Rattle.evaluator.proofs.Sets.{firstCell, Sets}
 
@@ -54,13 +52,6 @@ module _ {P : Program} {t : Traces} {n : Lengths} {bytes words traces : List ℕ
       rw (s .function g f e)
       (held-in (firstCell t P g) (kindNumber (f .result)) n cell (short-lengths (s .samples) (s .lengths))
       ∙ decided-means (s .lengths) (f .result) cell)
-
-  pub held-working : (cell : ℕ) → workingIn (functionAt words g) cell ≡ workingContent (outcomeIn t (f .result) cell)
-  held-working cell =
-      rw (s .function g f e)
-      (working-in (firstCell t P g) (kindNumber (f .result)) n cell (short-lengths (s .samples) (s .lengths))
-      ∙ ap (λ (c : ℕ). workingBy (shiftOf (kindNumber (f .result))) c) (decided-means (s .lengths) (f .result) cell)
-      ∙ working-means t (s .samples) (f .result) cell)
 
   pub first-is : firstIn (functionAt words g) ≡ firstCell t P g
   first-is =

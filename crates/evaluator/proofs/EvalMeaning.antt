@@ -1,33 +1,36 @@
 -- The evaluation of the words of an expression, by places and numbers, comes to what the rules say of it:
 --   eval-means       the working number of what the body of a function, or a part of it, gives
-use Prim.Native.Nat.{ℕ, zero, suc, _+_, _/_, _≤_, _<_}
+use Prim.Native.Nat.{ℕ, zero, suc, _+_, _*_, _/_, _%_, _≤_, _<_}
+use native.Mathlib.Nat.{mod-eq-of-lt}
 use native.Mathlib.Omega.{arith}
 use mathlib.Core.Path.{_≡_, refl, ap, _∙_}
 use mathlib.Core.Bool.{true, false}
 use mathlib.Core.List.{List, [], _∷_, _++_, append-assoc}
 use mathlib.Core.Option.{Option, none, some}
+use lib.Dec.{T}
 use lib.ListN.{length, getElem?, getD, drop}
 use Rattle.semantics.specs.declared.Contact.the-variants.{Ram, Guard}
 use Rattle.semantics.specs.declared.Error.the-variants.{Head, Tail}
 use Rattle.semantics.specs.declared.Outcome.{Outcome}
 use Rattle.semantics.specs.declared.Outcome.the-variants.{Truth, Suffix, Failed}
-use Rattle.semantics.specs.Language.{Kind, truth, Op, hd, tl, null, Expr, constant, empty, param, op, ifte, call, Args, noArgs, arg, Program, Traces, Value, InKinds, Demand, only, anyList, operandDemand, Meets, MeetAll}
-use Rattle.semantics.specs.Cells.{falseCode, trueCode, suffixCode}
+use Rattle.semantics.specs.Language.{Kind, truth, list, Op, hd, tl, null, Expr, constant, empty, param, op, ifte, call, Args, noArgs, arg, Program, Traces, Value, InKinds, Demand, only, anyList, allows, operandDemand, Meets, MeetAll}
+use Rattle.semantics.specs.Cells.{falseCode, trueCode, suffixCode, contentOf}
 use Rattle.semantics.specs.Bodies.{paramValue, bodyOutcome, argsOutcome, withValue, withValues, operated, chosen}
 use Rattle.semantics.specs.Visits.{Table, lookup}
 use Rattle.semantics.proofs.Bodies.{kinded}
 use Rattle.semantics.proofs.Visits.{lookup-kinds}
 use Rattle.syntax.specs.declared.Node.{Node}
 use Rattle.syntax.specs.Limits.{mostParams}
+use Rattle.syntax.specs.Kinds.{kindNumber, kindIn}
 use Rattle.rule.specs.Form.{encodeExpr, encodeArgs, depth, depthAll}
 use Rattle.syntax.specs.Bytes.{nodeOf}
 use Rattle.rule.proofs.NodeBytes.{node-false, node-true, node-empty, node-empty-guard, node-if, node-op, node-param, node-call}
 use Rattle.rule.proofs.Expressions.{place-below}
 use Rattle.codes.specs.declared.Lengths.{Lengths}
-use Rattle.codes.specs.{guardCode}
-use Rattle.codes.proofs.CodeMeaning.{OfDemand, any-list, workingContent, head-means, tail-means, null-means}
+use Rattle.codes.specs.{guardCode, resultCode}
+use Rattle.codes.proofs.CodeMeaning.{OfDemand, any-list, workingContent, head-means, tail-means, null-means, result-means}
 use Rattle.decoding.specs.Words.{placesOf}
-use Rattle.decoding.specs.Decoding.{endAt, calledBy, decodedBy, wordBy}
+use Rattle.decoding.specs.Decoding.{endAt, placed, callSortOf, calledBy, decodedBy, wordBy}
 use Rattle.decoding.proofs.Ends.{Ends, after-operand, byte-here, bytes-after, byte-within}
 use Rattle.evaluator.specs.{argsIn, evalWord, evalAt}
 use Rattle.evaluator.proofs.Sets.{EnvOf, Sets}
@@ -46,6 +49,11 @@ depth-pos (param i) = omega arith
 depth-pos (op p e) = omega arith
 depth-pos (ifte c a b) = omega arith
 depth-pos (call g xs) = omega arith
+
+allows-own : (κ : Kind) → T (allows (only κ) κ)
+allows-own truth = tt
+allows-own (list Ram) = tt
+allows-own (list Guard) = tt
 
 -- each parameter has a value
 value-there : (t : Traces) (Γ : List Kind) (vs : List Value) → InKinds t Γ vs → (i : ℕ) (κ : Kind) → getElem? Γ i ≡ some κ
@@ -67,7 +75,7 @@ branch-means t eval at then other (some (Failed Head)) a b h p q r = rw p
 branch-means t eval at then other (some (Failed Tail)) a b h p q r = rw p
 
 module _ (P : Program) (t : Traces) (n : Lengths) (bytes W traces : List ℕ) (s : Sets P t n bytes W traces) (T : Table)
-    (Γ : List Kind) (vs : List Value) (hs : InKinds t Γ vs) (narrow : length Γ ≤ mostParams) (env : List ℕ) (en : EnvOf env vs n) where
+    (Γ : List Kind) (vs : List Value) (hs : InKinds t Γ vs) (narrow : length Γ ≤ mostParams) (env : List ℕ) (en : EnvOf t env vs) where
   abbrev calls : ℕ → List Value → Option Outcome
   calls = lookup P t T
 
@@ -89,7 +97,7 @@ module _ (P : Program) (t : Traces) (n : Lengths) (bytes W traces : List ℕ) (s
   record Decoded (at : ℕ) (k : Node) : Type 0 where
     ends : List ℕ
     right : Ends P bytes (at + 1) ends
-    word : getD W at 0 ≡ decodedBy (s .counts) ends (at + 1) (getD W (at + 1) 0) k
+    word : getD W at 0 ≡ decodedBy (s .counts) (s .signatures) ends (at + 1) (getD W (at + 1) 0) k
 
   decoded : (at b : ℕ) (bs : List ℕ) (k : Node) → drop at bytes ≡ b ∷ bs → nodeOf b ≡ k → Decoded at k
   unfolding wordBy
@@ -98,7 +106,7 @@ module _ (P : Program) (t : Traces) (n : Lengths) (bytes W traces : List ℕ) (s
       record {
         ends = x .0;
         right = x .1;
-        word = x .2 ∙ ap (λ (y : Node). decodedBy (s .counts) (x .0) (at + 1) (getD W (at + 1) 0) y) (ap nodeOf (byte-here bytes at h) ∙ e);
+        word = x .2 ∙ ap (λ (y : Node). decodedBy (s .counts) (s .signatures) (x .0) (at + 1) (getD W (at + 1) 0) y) (ap nodeOf (byte-here bytes at h) ∙ e);
       }
 
   -- its outcome is that of the word there
@@ -122,9 +130,7 @@ module _ (P : Program) (t : Traces) (n : Lengths) (bytes W traces : List ℕ) (s
 
         applies : (o : Op) → opBy traces env o (workingContent (bodyOutcome t calls vs e))
             ≡ workingContent (withValue Failed (bodyOutcome t calls vs e) (operated t o))
-        applies hd =
-            rw (en .ram, s .lengths .ram, en .guard, s .lengths .guard)
-            (head-means t (s .samples) traces (s .says) (bodyOutcome t calls vs e) list)
+        applies hd = head-means t (s .samples) traces env (s .says) (en .ends) (bodyOutcome t calls vs e) list
         applies tl = tail-means t (s .samples) (bodyOutcome t calls vs e) list
         applies null = null-means t (s .samples) (bodyOutcome t calls vs e) list
 
@@ -159,7 +165,7 @@ module _ (P : Program) (t : Traces) (n : Lengths) (bytes W traces : List ℕ) (s
       MeansAll xs = (g : ℕ) (κs : List Kind) (i index places at : ℕ) (rest : List ℕ) (k : List Value → Option Outcome)
           → MeetAll P Γ κs xs → Due t n W T g κs i index k → low ≤ at → Stand ends (length κs) places at
           → drop at bytes ≡ encodeArgs xs ++ rest
-          → argsIn W T ev g (length κs) i index places ≡ workingContent (withValues Failed (argsOutcome t calls vs xs) k)
+          → argsIn W T ev g (length κs) i index places ≡ contentOf (withValues Failed (argsOutcome t calls vs xs) k)
 
       arg-node : (e : Expr) (xs : Args) → Means e → MeansAll xs → MeansAll (arg e xs)
       unfolding bodyOutcome encodeArgs
@@ -203,7 +209,7 @@ module _ (P : Program) (t : Traces) (n : Lengths) (bytes W traces : List ℕ) (s
         let after = bytes-after bytes at q in
         let place = after-operand P bytes (s .short) (at + 1) (x .ends) (x .right) Γ narrow (operandDemand p δ) e (at + 1) rest (omega arith) (m .1) after in
         at-word (suc (suc d)) at (x .word)
-        ∙ op-word W traces T env (s .counts) (x .ends) p d (at + 1) (omega (arith, place .within, s .short))
+        ∙ op-word W traces T env (s .counts) (s .signatures) (x .ends) p d (at + 1) (omega (arith, place .within, s .short))
         ∙ op-node (eval (suc d)) p e δ (at + 1) rest (λ δ′ to r k w. eval-means e δ′ (suc d) to r k l w) m after
     eval-means (ifte c a b) δ zero at rest m h q = absurd (omega arith)
     eval-means (ifte c a b) δ (suc zero) at rest m h q = absurd (omega (arith, depth-pos c))
@@ -227,12 +233,19 @@ module _ (P : Program) (t : Traces) (n : Lengths) (bytes W traces : List ℕ) (s
         let x = decoded at _ _ _ q (node-call below) in
         let after = bytes-after bytes at q in
         let inside = args-within (eval d) (at + 1) (x .ends) (x .right) xs (f .params) (at + 1) rest (omega arith) (m .3) after in
-        let word : getD W at 0 ≡ calledBy (x .ends) (length (f .params)) g (at + 1) =
-        x .word ∙ ap (λ (k : ℕ). calledBy (x .ends) k g (at + 1)) (s .arguments g f (m .1)) in
+        let kind : kindIn (getD (s .signatures) (32 + g % 32) 0) 4 ≡ kindNumber (f .result) =
+        ap (λ (k : ℕ). kindIn (getD (s .signatures) (32 + k) 0) 4) (mod-eq-of-lt below) ∙ s .results g f (m .1) in
+        let called = placed (x .ends) (callSortOf (kindNumber (f .result)) (length (f .params))) (g % 32 + 32 * length (f .params)) (at + 1) in
+        let word : getD W at 0 ≡ called =
+        x .word
+        ∙ ap (λ (k : ℕ). calledBy (s .signatures) (x .ends) k g (at + 1)) (s .arguments g f (m .1))
+        ∙ ap (λ (k : ℕ). placed (x .ends) (callSortOf k (length (f .params))) (g % 32 + 32 * length (f .params)) (at + 1)) kind in
         at-word (suc d) at word
-        ∙ call-word W traces T env (x .ends) d g (length (f .params)) (at + 1) below few
-        ∙ args-mean xs d l (at + 1) (x .ends) (x .right) g (f .params) 0 0 (placesOf (calledBy (x .ends) (length (f .params)) g (at + 1))) (at + 1) rest
-        (calls g) (m .3) (due-first P t n bytes W traces s T g f (m .1)) (omega arith) (stand (x .ends) _ _ (at + 1) (length (f .params)) few inside) after
+        ∙ call-word W traces T env (x .ends) d g (length (f .params)) (at + 1) below few (kindNumber (f .result))
+        ∙ ap (λ (k : ℕ). resultCode (kindNumber (f .result)) k)
+        (args-mean xs d l (at + 1) (x .ends) (x .right) g (f .params) 0 0 (placesOf called) (at + 1) rest
+        (calls g) (m .3) (due-first P t n bytes W traces s T g f (m .1)) (omega arith) (stand (x .ends) _ _ (at + 1) (length (f .params)) few inside) after)
+        ∙ result-means t (s .samples) (f .result) (bodyOutcome t calls vs (call g xs)) (of-demand (call g xs) (only (f .result)) (f, m .1, allows-own (f .result), m .3))
 
     args-mean : (xs : Args) (d : ℕ) → depthAll xs ≤ d → (low : ℕ) (ends : List ℕ) (u : Ends P bytes low ends) → MeansAll (eval d) low ends u xs
     args-mean noArgs d h low ends u g κs i index places at rest k m due l st w =

@@ -8,7 +8,7 @@
 --   function-at, param-at, first-param-at        the words of a function, by their places
 --   args-count, one-stop, one-found              a call, by the number of its arguments
 --   next-index-is, lookup-is                     digits and numbers of configurations that need no cutting
---   held-past                                    what the table holds past its cells
+--   lookup-past                                  what the table holds past its cells
 use mathlib.Core.Path.{_≡_, refl, sym, ap, _∙_}
 use mathlib.Core.Bool.{Bool, true, false, cond}
 use mathlib.Core.List.{List}
@@ -19,9 +19,9 @@ use native.Mathlib.Omega.{arith}
 use lib.Dec.{leb, ltb, eqb}
 use lib.ListN.{length, getD, List·getD-eq-default}
 use borrow.Author.Tests.{le-leb, lt-leb, ltb-true, ltb-false, eq-eqb, ne-eqb}
-use Rattle.codes.specs.{foreign, workingBy}
-use Rattle.decoding.specs.Words.{sortOf, secondPlace, thirdPlace, functionsFrom, stride, firstIn, leastIn, mostIn, heldIn, shiftIn, valuesIn, lowestIn}
-use Rattle.evaluator.specs.{functionAt, paramAt, digitBound, mostIndex, nextIndex, Digit, heldBy, lookupBy, argsIn, sortBy, evalWord, evalAt, branchAt}
+use Rattle.codes.specs.{foreign}
+use Rattle.decoding.specs.Words.{sortOf, secondPlace, thirdPlace, functionsFrom, stride, firstIn, leastIn, mostIn, heldIn, valuesIn, lowestIn}
+use Rattle.evaluator.specs.{functionAt, paramAt, digitBound, mostIndex, nextIndex, Digit, lookupBy, argsIn, sortBy, evalWord, evalAt, branchAt}
 
 -- a number that is none of the first so many
 abbrev pub Apart : ℕ → ℕ → Type 0
@@ -52,9 +52,9 @@ module _ (W traces T env : List ℕ) (d w : ℕ) where
           ∙ ap (λ (j : ℕ). sortBy W traces T env (evalAt W traces T env j) w k) (sym (sub-one (suc d)))
 
   -- a sort that no node has
-  pub eval-other : (d ≡ 0 → ⊥) → {sort : ℕ} → sort ≡ sortOf w → 14 ≤ sort → evalWord W traces T env d w ≡ 0
+  pub eval-other : (d ≡ 0 → ⊥) → {sort : ℕ} → sort ≡ sortOf w → 15 ≤ sort → evalWord W traces T env d w ≡ 0
   eval-other z {sort} e h =
-      let apart : (k : ℕ) → k < 14 → eqb sort k ≡ false = λ k l. ne-eqb sort k (λ q. omega arith) in
+      let apart : (k : ℕ) → k < 15 → eqb sort k ≡ false = λ k l. ne-eqb sort k (λ q. omega arith) in
       eval-sort z sort e refl
       ∙ simp (
         apart 0 (omega arith),
@@ -71,6 +71,7 @@ module _ (W traces T env : List ℕ) (d w : ℕ) where
         apart 11 (omega arith),
         apart 12 (omega arith),
         apart 13 (omega arith),
+        apart 14 (omega arith),
       )
 
   pub branch-true : (c : ℕ) {v : ℕ} → c ≡ 2 → v ≡ getD W (secondPlace w) 0 → branchAt W traces T env d w c ≡ evalWord W traces T env d v
@@ -202,9 +203,8 @@ next-index-is index radix digit h k e =
     ∙ ap (λ (r : ℕ). nextIndex index r (digit % digitBound)) (mod-eq-of-lt h)
     ∙ ap (λ (d : ℕ). nextIndex index radix d) (mod-eq-of-lt k)
 
-pub lookup-is : (function : ℕ) (T : List ℕ) (index : ℕ) {held x : ℕ} → index < mostIndex → held ≡ heldBy function T (index % mostIndex)
-    → x ≡ workingBy (shiftIn function) held → x ≡ lookupBy function T index
-lookup-is function T index h e q = q ∙ ap (λ (c : ℕ). workingBy (shiftIn function) c) (e ∙ ap (λ (i : ℕ). heldBy function T i) (mod-eq-of-lt h))
+pub lookup-is : (function : ℕ) (T : List ℕ) (index : ℕ) {x : ℕ} → index < mostIndex → x ≡ lookupBy function T (index % mostIndex) → x ≡ lookupBy function T index
+lookup-is function T index h e = e ∙ ap (lookupBy function T) (mod-eq-of-lt h)
 
 -- ---- What the table holds
 
@@ -217,6 +217,6 @@ module _ (function : ℕ) (T : List ℕ) (index : ℕ) where
       go false true = refl
       go false false = refl
 
-  pub held-past : {first : ℕ} → first ≡ firstIn function → length T ≤ first + index → heldBy function T index ≡ 0
-  unfolding heldBy
-  held-past e h = ap (heldIn function) (ap (λ (f : ℕ). getD T (f + index) 0) (sym e) ∙ List·getD-eq-default T 0 h) ∙ held-none
+  pub lookup-past : {first : ℕ} → first ≡ firstIn function → length T ≤ first + index → lookupBy function T index ≡ 0
+  unfolding lookupBy
+  lookup-past e h = ap (heldIn function) (ap (λ (f : ℕ). getD T (f + index) 0) (sym e) ∙ List·getD-eq-default T 0 h) ∙ held-none

@@ -4,7 +4,7 @@
 --   op-word                hd, tl and null, fused with a parameter or not
 --   if-word                an if, fused with its condition or not
 --   Stand, stand           the places of operands stand in a word
---   call-word              a call, of one argument or more
+--   call-word              a call, by its callee's result kind
 use Prim.Native.Nat.{ℕ, zero, suc, _+_, _*_, _/_, _%_, _<_, _≤_}
 use native.Mathlib.Nat.{mod-eq-of-lt}
 use native.Mathlib.Omega.{arith}
@@ -16,13 +16,14 @@ use lib.ListN.{getD}
 use borrow.Author.Tests.{eqb-true}
 use Rattle.semantics.specs.Language.{Op, hd, tl, null}
 use Rattle.semantics.specs.Cells.{falseCode, trueCode}
-use Rattle.codes.specs.{tailOf, nullOf}
+use Rattle.codes.specs.{headOf, tailOf, nullOf, guardedCode, resultCode}
+use Rattle.syntax.specs.Kinds.{guardKind}
 use Rattle.rule.proofs.NodeBytes.{opNode}
-use Rattle.decoding.specs.Words.{paramSort, headSort, tailSort, nullSort, headParamSort, tailParamSort, nullParamSort, ifSort, ifParamSort, ifNullSort, ifHeadSort, callSort, callOneSort}
+use Rattle.decoding.specs.Words.{paramSort, headSort, tailSort, nullSort, headParamSort, tailParamSort, nullParamSort, ifSort, ifParamSort, ifNullSort, ifHeadSort, callSort, callOneSort, callGuardSort}
 use Rattle.decoding.specs.Words.{packed, sortOf, paramOf, calleeOf, countOf, placesOf, firstPlace, thirdPlace}
-use Rattle.decoding.specs.Decoding.{endAt, constantBy, unaryBy, conditionalBy, placed, calledBy, decodedBy}
+use Rattle.decoding.specs.Decoding.{endAt, constantBy, unaryBy, conditionalBy, placed, callSortOf, decodedBy}
 use Rattle.decoding.proofs.Packing.{sort-packed, param-packed, callee-packed, count-packed, constant-packed, first-packed, second-packed, third-packed, place-0, place-1, place-2, place-3}
-use Rattle.evaluator.specs.{paramIn, headIn, branchBy, argsIn, sortBy, evalWord, evalAt}
+use Rattle.evaluator.specs.{paramIn, branchBy, argsIn, sortBy, evalWord, evalAt}
 
 -- ---- Places in a word
 
@@ -66,7 +67,7 @@ module _ (ends : List ℕ) (sort small first : ℕ) where
 
 -- what an operation makes of the number of its operand
 abbrev pub opBy : List ℕ → List ℕ → Op → ℕ → ℕ
-opBy traces env hd c = headIn traces env c
+opBy traces env hd c = headOf traces env c
 opBy traces env tl c = tailOf c
 opBy traces env null c = nullOf c
 
@@ -121,11 +122,11 @@ module _ (W traces T env : List ℕ) where
             ∙ by-plain (there (suc d)) w
             ∙ ap (λ (p : ℕ). f (there (suc d) p)) (first-packed plain 0 first 0 0 0 ∙ mod-eq-of-lt h)
 
-  pub op-word : (params ends : List ℕ) (p : Op) (d first : ℕ) → first < 4096
-      → evalWord W traces T env (suc (suc d)) (decodedBy params ends first (getD W first 0) (opNode p)) ≡ opBy traces env p (there (suc d) first)
-  op-word params ends hd = unary-word headSort headParamSort (λ (c : ℕ). headIn traces env c) (λ eval w. refl) (λ eval w. refl)
-  op-word params ends tl = unary-word tailSort tailParamSort (λ (c : ℕ). tailOf c) (λ eval w. refl) (λ eval w. refl)
-  op-word params ends null = unary-word nullSort nullParamSort (λ (c : ℕ). nullOf c) (λ eval w. refl) (λ eval w. refl)
+  pub op-word : (params functions ends : List ℕ) (p : Op) (d first : ℕ) → first < 4096
+      → evalWord W traces T env (suc (suc d)) (decodedBy params functions ends first (getD W first 0) (opNode p)) ≡ opBy traces env p (there (suc d) first)
+  op-word params functions ends hd = unary-word headSort headParamSort (λ (c : ℕ). headOf traces env c) (λ eval w. refl) (λ eval w. refl)
+  op-word params functions ends tl = unary-word tailSort tailParamSort (λ (c : ℕ). tailOf c) (λ eval w. refl) (λ eval w. refl)
+  op-word params functions ends null = unary-word nullSort nullParamSort (λ (c : ℕ). nullOf c) (λ eval w. refl) (λ eval w. refl)
 
   -- ---- An if
 
@@ -175,7 +176,7 @@ module _ (W traces T env : List ℕ) where
     plain = chosen ifSort (λ w i p. ap (λ (q : ℕ). branchBy eval w (eval q)) p)
 
     by-head : (b : Bool) → eqb (sortOf condition) headParamSort ≡ b → Chooses (cond b ifHeadSort ifSort)
-    by-head true e = fused ifHeadSort headParamSort (λ (v : ℕ). headIn traces env v) (eqb-true _ _ e) (λ w. refl) (λ w. refl)
+    by-head true e = fused ifHeadSort headParamSort (λ (v : ℕ). headOf traces env v) (eqb-true _ _ e) (λ w. refl) (λ w. refl)
     by-head false e = plain
 
     by-null : (b : Bool) → eqb (sortOf condition) nullParamSort ≡ b
@@ -200,6 +201,9 @@ module _ (W traces T env : List ℕ) where
     abbrev called : ℕ → ℕ
     called sort = placed ends sort small first
 
+    abbrev args : ℕ → ℕ
+    args sort = argsIn W T (there d) g count 0 0 (placesOf (called sort))
+
     -- the word names the callee, and how many arguments there are
     named : (sort : ℕ) → calleeOf (called sort) ≡ g
     named sort =
@@ -215,7 +219,13 @@ module _ (W traces T env : List ℕ) where
     sorted sort = sort-packed sort small first (endAt ends first) (endAt ends (endAt ends first)) (endAt ends (endAt ends (endAt ends first)))
 
     abbrev Calls : ℕ → Type 0
-    Calls sort = evalWord W traces T env (suc d) (called sort) ≡ argsIn W T (there d) g count 0 0 (placesOf (called sort))
+    Calls sort = evalWord W traces T env (suc d) (called sort) ≡ args sort
+
+    -- the callee and the number of arguments that the word says
+    by-word : (sort : ℕ) → argsIn W T (there d) (calleeOf (called sort)) (countOf (called sort)) 0 0 (placesOf (called sort)) ≡ args sort
+    by-word sort =
+        ap (λ (c : ℕ). argsIn W T (there d) c (countOf (called sort)) 0 0 (placesOf (called sort))) (named sort)
+        ∙ ap (λ (c : ℕ). argsIn W T (there d) g c 0 0 (placesOf (called sort))) (counted sort)
 
     by-count : (b : Bool) → eqb count 1 ≡ b → Calls (cond b callOneSort callSort)
     by-count true e =
@@ -223,10 +233,15 @@ module _ (W traces T env : List ℕ) where
         word-sort d (called callOneSort) 13 (sorted callOneSort)
         ∙ ap (λ (c : ℕ). argsIn W T (there d) c 1 0 0 (placesOf (called callOneSort))) (named callOneSort)
         ∙ ap (λ (c : ℕ). argsIn W T (there d) g c 0 0 (placesOf (called callOneSort))) (sym one)
-    by-count false e =
-        word-sort d (called callSort) 12 (sorted callSort)
-        ∙ ap (λ (c : ℕ). argsIn W T (there d) c (countOf (called callSort)) 0 0 (placesOf (called callSort))) (named callSort)
-        ∙ ap (λ (c : ℕ). argsIn W T (there d) g c 0 0 (placesOf (called callSort))) (counted callSort)
+    by-count false e = word-sort d (called callSort) 12 (sorted callSort) ∙ by-word callSort
 
-    pub call-word : evalWord W traces T env (suc d) (calledBy ends count g first) ≡ argsIn W T (there d) g count 0 0 (placesOf (calledBy ends count g first))
-    call-word = by-count (eqb count 1) refl
+    by-kind : (b : Bool)
+        → let sort = cond b callGuardSort (cond (eqb count 1) callOneSort callSort) in
+        evalWord W traces T env (suc d) (called sort) ≡ cond b (guardedCode (args sort)) (args sort)
+    by-kind true = word-sort d (called callGuardSort) 14 (sorted callGuardSort) ∙ ap (λ (c : ℕ). guardedCode c) (by-word callGuardSort)
+    by-kind false = by-count (eqb count 1) refl
+
+    pub call-word : (kind : ℕ)
+        → let word = placed ends (callSortOf kind count) (g % 32 + 32 * count) first in
+        evalWord W traces T env (suc d) word ≡ resultCode kind (argsIn W T (there d) g count 0 0 (placesOf word))
+    call-word kind = by-kind (eqb kind guardKind)

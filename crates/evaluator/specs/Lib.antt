@@ -7,9 +7,9 @@ use mathlib.Core.List.{List}
 use lib.Dec.{leb, eqb}
 use lib.ListN.{getD}
 use Rattle.semantics.specs.Cells.{undecidedCode, falseCode, trueCode}
-use Rattle.codes.specs.{workingBy, headOf, tailOf, nullOf, foreign}
-use Rattle.decoding.specs.Words.{constantSort, paramSort, headSort, tailSort, nullSort, headParamSort, tailParamSort, nullParamSort, ifSort, ifParamSort, ifNullSort, ifHeadSort, callSort, callOneSort}
-use Rattle.decoding.specs.Words.{sortOf, paramOf, calleeOf, countOf, placesOf, constantOf, firstPlace, secondPlace, thirdPlace, functionsFrom, stride, firstIn, heldIn, shiftIn, valuesIn, lowestIn}
+use Rattle.codes.specs.{headOf, tailOf, nullOf, guardedCode, foreign}
+use Rattle.decoding.specs.Words.{constantSort, paramSort, headSort, tailSort, nullSort, headParamSort, tailParamSort, nullParamSort, ifSort, ifParamSort, ifNullSort, ifHeadSort, callSort, callOneSort, callGuardSort}
+use Rattle.decoding.specs.Words.{sortOf, paramOf, calleeOf, countOf, placesOf, constantOf, firstPlace, secondPlace, thirdPlace, functionsFrom, stride, firstIn, heldIn, valuesIn, lowestIn}
 
 -- ---- Functions
 
@@ -42,12 +42,8 @@ Digit kind c digit =
     × (lowestIn kind ≤ c → digit ≡ c - lowestIn kind)
     × ((digit + lowestIn kind) % 2 ^ 64 ≡ c)
 
--- what the table holds for a configuration: the number of a cell, and the working number
-unfoldable pub heldBy : ℕ → List ℕ → ℕ → ℕ
-heldBy function table index = heldIn function (getD table (firstIn function + index) 0)
-
-abbrev pub lookupBy : ℕ → List ℕ → ℕ → ℕ
-lookupBy function table index = workingBy (shiftIn function) (heldBy function table index)
+unfoldable pub lookupBy : ℕ → List ℕ → ℕ → ℕ
+lookupBy function table index = heldIn function (getD table (firstIn function + index) 0)
 
 -- ---- Nodes
 
@@ -69,27 +65,25 @@ callBy words table eval w count = argsIn words table eval (calleeOf w) count 0 0
 abbrev pub paramIn : List ℕ → ℕ → ℕ
 paramIn env w = getD env (paramOf w) 0
 
-abbrev pub headIn : List ℕ → List ℕ → ℕ → ℕ
-headIn traces env c = headOf traces (getD env 4 0) (getD env 5 0) c
-
 -- a word of a sort; eval gives the outcome of the word at a place
 abbrev pub sortBy : List ℕ → List ℕ → List ℕ → List ℕ → (ℕ → ℕ) → ℕ → ℕ → ℕ
 sortBy words traces table env eval w sort =
     cond (eqb sort constantSort) (constantOf w)
     (cond (eqb sort paramSort) (paramIn env w)
-    (cond (eqb sort headSort) (headIn traces env (eval (firstPlace w)))
+    (cond (eqb sort headSort) (headOf traces env (eval (firstPlace w)))
     (cond (eqb sort tailSort) (tailOf (eval (firstPlace w)))
     (cond (eqb sort nullSort) (nullOf (eval (firstPlace w)))
-    (cond (eqb sort headParamSort) (headIn traces env (paramIn env w))
+    (cond (eqb sort headParamSort) (headOf traces env (paramIn env w))
     (cond (eqb sort tailParamSort) (tailOf (paramIn env w))
     (cond (eqb sort nullParamSort) (nullOf (paramIn env w))
     (cond (eqb sort ifSort) (branchBy eval w (eval (firstPlace w)))
     (cond (eqb sort ifParamSort) (branchBy eval w (paramIn env w))
     (cond (eqb sort ifNullSort) (branchBy eval w (nullOf (paramIn env w)))
-    (cond (eqb sort ifHeadSort) (branchBy eval w (headIn traces env (paramIn env w)))
+    (cond (eqb sort ifHeadSort) (branchBy eval w (headOf traces env (paramIn env w)))
     (cond (eqb sort callSort) (callBy words table eval w (countOf w))
     (cond (eqb sort callOneSort) (callBy words table eval w 1)
-    undecidedCode)))))))))))))
+    (cond (eqb sort callGuardSort) (guardedCode (callBy words table eval w (countOf w)))
+    undecidedCode))))))))))))))
 
 -- the number of the outcome of a word, with so much depth left; undecided where there is none
 unfoldable pub evalWord : List ℕ → List ℕ → List ℕ → List ℕ → ℕ → ℕ → ℕ

@@ -9,7 +9,7 @@ ghost use mathlib.Core.Path.{_≡_};
 ghost use Prim.Native.Nat.{_%_, _<_};
 ghost use lib.ListN.{getD};
 ghost use Rattle.decoding.specs.Words.{paramOf};
-ghost use Rattle.evaluator.specs.{digitBound, mostIndex, nextIndex, Digit, heldBy, branchAt, callAt, callOneAt, evalWord};
+ghost use Rattle.evaluator.specs.{digitBound, mostIndex, nextIndex, Digit, lookupBy, branchAt, callAt, callOneAt, evalWord};
 
 // The number of the outcome of a node. The table is a reference to its slice: it goes from call to call as one
 // word. The sorts stand here by number, all sixteen, so that no range is tested.
@@ -33,13 +33,12 @@ pub fn eval(
         1 => param(env, node),
         2 => codes::head(
             traces,
-            env[4],
-            env[5],
+            env,
             operand(words, traces, table, env, left, nodes::first(words, node)),
         ),
         3 => codes::tail(operand(words, traces, table, env, left, nodes::first(words, node))),
         4 => codes::null(operand(words, traces, table, env, left, nodes::first(words, node))),
-        5 => codes::head(traces, env[4], env[5], param(env, node)),
+        5 => codes::head(traces, env, param(env, node)),
         6 => codes::tail(param(env, node)),
         7 => codes::null(param(env, node)),
         8 => branch(
@@ -68,11 +67,11 @@ pub fn eval(
             env,
             left,
             node,
-            codes::head(traces, env[4], env[5], param(env, node)),
+            codes::head(traces, env, param(env, node)),
         ),
         12 => call(words, traces, table, env, left, node),
         13 => call_one(words, traces, table, env, left, node),
-        14 => codes::UNDECIDED,
+        14 => codes::guarded(call(words, traces, table, env, left, node)),
         15 => codes::UNDECIDED,
         _ => codes::UNDECIDED,
     }
@@ -100,7 +99,7 @@ fn operand(
         return param(env, node);
     }
     if sort == nodes::HEAD_PARAM {
-        return codes::head(traces, env[4], env[5], param(env, node));
+        return codes::head(traces, env, param(env, node));
     }
     eval(words, traces, table, env, depth, node)
 }
@@ -154,7 +153,7 @@ fn call(
         rest = rest / 4096;
         i += 1;
     }
-    functions::working(words[place], lookup(words[place], table, index))
+    lookup(words[place], table, index)
 }
 
 // As call, for one argument.
@@ -175,7 +174,7 @@ fn call_one(
     if functions::values(kind) <= digit {
         return value;
     }
-    functions::working(words[place], lookup(words[place], table, digit))
+    lookup(words[place], table, digit)
 }
 
 // The value of the parameter that a node names.
@@ -203,7 +202,7 @@ pub fn next_index(index: u64, radix: u64, digit: u64) -> u64
 // What the table holds for a configuration of a function, by the function's word. The configuration's number is
 // below 2 ^ 49; of others the lowest bits are taken.
 pub fn lookup(function: u64, table: &&[u16], index: u64) -> u16
-    ensures { λ r. ⌜ r ≡ heldBy function (now (now (table .entry))) (index % mostIndex) ⌝ }
+    ensures { λ r. ⌜ r ≡ lookupBy function (now (now (table .entry))) (index % mostIndex) ⌝ }
 {
     let cell = (functions::first_cell(function) + index % 562949953421312) as usize;
     let cells = *table;

@@ -47,7 +47,7 @@ pub record Runs (P : Program) (t : Traces) (n : Lengths) (bytes : List ℕ) (S :
   pub kinds : WellKinded P
   pub sizes : (g : ℕ) (f : Function) → getElem? P g ≡ some f → sizeOf (S .functions) n g ≡ size t (f .params)
   pub envs : (g : ℕ) (f : Function) (i : ℕ) → getElem? P g ≡ some f → i < size t (f .params)
-      → EnvOf (envAt (S .functions) n g i) (valuesAt t (f .params) i) n
+      → EnvOf t (envAt (S .functions) n g i) (valuesAt t (f .params) i)
   pub bodies : (g : ℕ) (f : Function) → getElem? P g ≡ some f
       → (rest : List ℕ) × (drop (getD starts g 0) bytes ≡ encodeExpr (f .body) ++ rest)
   pub deep : (g : ℕ) (f : Function) → getElem? P g ≡ some f → depth (f .body) ≤ mostDepth

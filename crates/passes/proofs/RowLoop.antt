@@ -5,14 +5,14 @@
 --   stepping-ready               the next row, and what it asks
 --   stepping-more, stepping-end  after one more, and after all
 use mathlib.Core.Path.{_≡_, refl, sym, ap, _∙_}
-use mathlib.Core.List.{List, [], _∷_}
+use mathlib.Core.List.{List}
 use Prim.Native.Nat.{ℕ, _+_, _-_, _*_, _<_, _≤_}
 use native.Mathlib.Nat.{mul-le-mul-right}
 use native.Mathlib.Omega.{arith}
 use lib.ListN.{length, set}
 use Rattle.syntax.specs.Limits.{mostParams}
 use Rattle.codes.specs.declared.Lengths.{Lengths}
-use Rattle.passes.specs.Mirror.{Setup, kindsOf, countOf, sizeFrom, sizeOf, valuesInto, envAt, rowWidth, stepped, Ready, RowReady, SameOthers, visitsFrom, storesFrom}
+use Rattle.passes.specs.Mirror.{Setup, kindsOf, countOf, sizeFrom, sizeOf, valuesInto, blank, envAt, rowWidth, stepped, Ready, RowReady, SameOthers, visitsFrom, storesFrom}
 use Rattle.passes.proofs.Rows.{size-rows, row-values, step-others}
 use Rattle.passes.proofs.PassWays.{Visited, visited-start, visited-length, visited-row, visited-end}
 
@@ -32,18 +32,14 @@ module _ (S : Setup) (n : Lengths) (g body : ℕ) (T₀ : List ℕ) where
   abbrev rows : ℕ
   rows = sizeFrom kinds n 0 others
 
-  -- what the values are put into
-  abbrev blank : List ℕ
-  blank = 0 ∷ 0 ∷ 0 ∷ 0 ∷ n .ram ∷ n .guard ∷ []
-
   -- r rows have been visited, up to configuration `base`; env has the values of row r, but for the last parameter's
   pub record Stepping (T env : List ℕ) (stored base r : ℕ) : Type 0 where
     pub visited : Visited S n g body 0 T₀ T stored base
     pub place : base ≡ r * width
     pub few : r ≤ rows
-    pub values : r < rows → SameOthers others (valuesInto kinds n others r blank) env
+    pub values : r < rows → SameOthers others (valuesInto kinds n others r (blank n)) env
 
-  pub stepping-start : {env : List ℕ} → env ≡ valuesInto kinds n others 0 blank → Stepping T₀ env 0 0 0
+  pub stepping-start : {env : List ℕ} → env ≡ valuesInto kinds n others 0 (blank n) → Stepping T₀ env 0 0 0
   stepping-start e = record {
     visited = visited-start S n g body 0 T₀;
     place = omega arith;
@@ -66,7 +62,7 @@ module _ (S : Setup) (n : Lengths) (g body : ℕ) (T₀ : List ℕ) where
       inside = stepping-inside h;
       values = λ d l.
           p .values h _
-          ∙ row-values kinds n (u .samples) count r d blank refl h l
+          ∙ row-values kinds n (u .samples) count r d (blank n) refl h l
           ∙ ap (λ (b : ℕ). envAt (S .functions) n g (b + d)) (sym (p .place));
     }
 
@@ -76,7 +72,7 @@ module _ (S : Setup) (n : Lengths) (g body : ℕ) (T₀ : List ℕ) where
       visited = visited-row width (p .visited) v s;
       place = omega (arith, p .place);
       few = omega arith;
-      values = λ l. step-others kinds n (u .samples) others r blank env₁ (omega arith) l (λ w. o w ∙ p .values h w) e;
+      values = λ l. step-others kinds n (u .samples) others r (blank n) env₁ (omega arith) l (λ w. o w ∙ p .values h w) e;
     }
 
     pub stepping-end : rows ≤ r → (T ≡ visitsFrom S n g body 0 (sizeOf (S .functions) n g) T₀)

@@ -23,14 +23,14 @@ use Rattle.semantics.specs.Language.{Kind, Function, Program, Traces}
 use Rattle.semantics.specs.Numbering.{cells, mostCells}
 use Rattle.semantics.specs.Cells.{falseCode, trueCode}
 use Rattle.syntax.specs.Limits.{mostParams, mostBytes}
-use Rattle.syntax.specs.Kinds.{kindNumber}
+use Rattle.syntax.specs.Kinds.{kindNumber, kindIn}
 use Rattle.rule.specs.Form.{padded, Accepted}
 use Rattle.rule.specs.Outline.{outlineOf}
 use Rattle.rule.proofs.Padded.{length-padded, getD-padded}
 use Rattle.rule.proofs.Expressions.{place-below}
 use Rattle.codes.specs.declared.Lengths.{Lengths}
 use Rattle.codes.specs.{Short, mostTraceBytes, sampleCode}
-use Rattle.codes.proofs.CodeMeaning.{ShortTraces, LengthsOf, bytesFrom, SaysTraces}
+use Rattle.codes.proofs.CodeMeaning.{ShortTraces, LengthsOf, placesFrom, SaysTraces}
 use Rattle.decoding.specs.Words.{mostWords, functionWord, kindWord}
 use Rattle.decoding.specs.Decoding.{endsDown, wordsFilled}
 use Rattle.decoding.proofs.Ends.{ends-mean, arguments-mean}
@@ -69,6 +69,11 @@ module _ (ram guard : List ℕ) where
   unfolding part
   part-at bytes j h = getD-padded mostTraceBytes 0 (take mostTraceBytes bytes) j ∙ getD-take mostTraceBytes bytes j 0 h
 
+  -- where their bytes begin in the array
+  abbrev bytesFrom : Contact → ℕ
+  bytesFrom Ram = 0
+  bytesFrom Guard = mostTraceBytes
+
   -- a byte of one of them, by its place in the array
   byte-there : (c : Contact) (j : ℕ) → j < mostTraceBytes → getD (tracesOf ram guard) (bytesFrom c + j) 0 ≡ getD (bytesOf c) j 0
   unfolding tracesOf part
@@ -80,14 +85,22 @@ module _ (ram guard : List ℕ) where
       ∙ getD-append-add (part ram) (part guard) j 0
       ∙ part-at guard j h
 
+  -- the byte and the bit of a place among the samples of both
+  byte-of : (c : Contact) (i : ℕ) → i < mostSamples → (placesFrom c + i) / 8 % 1024 ≡ bytesFrom c + i / 8
+  byte-of Ram i h = omega arith
+  byte-of Guard i h = omega arith
+
+  bit-in : (c : Contact) (i : ℕ) → (placesFrom c + i) % 8 ≡ i % 8
+  bit-in Ram i = omega arith
+  bit-in Guard i = omega arith
+
   sample-there : (c : Contact) (n i : ℕ) → n ≤ mostSamples → i < n
-      → sampleCode (tracesOf ram guard) (bytesFrom c) i ≡ cond (getD (samples (bytesOf c) n) i false) trueCode falseCode
+      → sampleCode (tracesOf ram guard) (placesFrom c + i) ≡ cond (getD (samples (bytesOf c) n) i false) trueCode falseCode
   unfolding sampleAt
   sample-there c n i few h =
       let inside : i / 8 < mostTraceBytes = omega arith in
-      ap (λ (b : Bool). cond b trueCode falseCode)
-      (ap (bitOf (i % 8)) (ap (λ (p : ℕ). getD (tracesOf ram guard) (bytesFrom c + p) 0) (mod-eq-of-lt inside) ∙ byte-there c (i / 8) inside)
-      ∙ sym (samples-at (bytesOf c) n i h))
+      rw (byte-of c i (omega arith), bit-in c i, byte-there c (i / 8) inside)
+      (ap (λ (b : Bool). cond b trueCode falseCode) (sym (samples-at (bytesOf c) n i h)))
 
   pub traces-mean : (n : Lengths) → Short n → SaysTraces (tracesFor ram guard n) (tracesOf ram guard)
   traces-mean n few Ram i h = sample-there Ram (n .ram) i (few .0) (rw (length-samples ram (n .ram)) at h)
@@ -128,10 +141,13 @@ module _ {bytes : List ℕ} {s : Sort} {P : Program} (a : Accepted bytes s P) (r
     pub count-is : countOf F g ≡ length (f .params)
     count-is = count-means a t n (lengths-are ram guard n) g f e
 
+    result-is : kindIn (getD F (32 + g) 0) 4 ≡ kindNumber (f .result)
+    result-is = rw kinds-are (result-kind (f .params) (f .result) (a .fits g f e .params))
+
     function-is : functionAt (S .words) g ≡ functionWord (firstCell t P g) (kindNumber (f .result)) n
     function-is =
         function-filled bytes (outlineOf s P .params) F (length P) n (replicate mostWords 0) zeros (a .short) (a .few) g (place-below P g f e)
-        ∙ rw (first-is, kinds-are, result-kind (f .params) (f .result) (a .fits g f e .params))
+        ∙ rw (first-is, result-is)
 
     param-is : (i : ℕ) (κ : Kind) → getElem? (f .params) i ≡ some κ → paramAt (S .words) g i ≡ kindWord (kindNumber κ) n
     param-is i κ h =
@@ -151,6 +167,8 @@ module _ {bytes : List ℕ} {s : Sort} {P : Program} (a : Accepted bytes s P) (r
         fits = fits;
         counts = outlineOf s P .params;
         arguments = λ g f e. arguments-mean a g f e;
+        signatures = F;
+        results = λ g f e. result-is g f e;
         nodes = λ at h. (
           endsDown bytes (outlineOf s P .params) (length bytes - (at + 1)) (at + 1) (replicate mostBytes 0),
           ends-mean a (at + 1) (omega arith),

@@ -24,7 +24,7 @@ use Rattle.rule.proofs.Scanning.{map-snoc}
 use Rattle.codes.specs.declared.Lengths.{Lengths}
 use Rattle.codes.specs.{workingOf}
 use Rattle.codes.proofs.CodeMeaning.{ShortTraces, LengthsOf}
-use Rattle.passes.specs.Mirror.{valueNumber, valuesInto}
+use Rattle.passes.specs.Mirror.{valueNumber, valuesInto, blank}
 use Rattle.evaluator.proofs.Sets.{EnvOf}
 use Rattle.passes.proofs.FunctionsMeaning.{kind-in, signatureFor, byte-small, radix-in}
 use Rattle.passes.proofs.Rows.{values-above}
@@ -155,17 +155,15 @@ number-there (x ∷ vs) rest (suc j) v e = number-there vs rest j v e
 
 pub env-means : {t : Traces} {n : Lengths} → LengthsOf t n → ShortTraces t → (κs : List Kind) (result : Kind) → length κs ≤ mostParams
     → (i : ℕ) → i < size t κs
-    → EnvOf (valuesInto (signatureFor κs result) n (length κs) i (0 ∷ 0 ∷ 0 ∷ 0 ∷ n .ram ∷ n .guard ∷ [])) (valuesAt t κs i) n
+    → EnvOf t (valuesInto (signatureFor κs result) n (length κs) i (blank n)) (valuesAt t κs i)
 env-means {t} {n} ls short κs result few i h =
     let k = kindsByte κs result in
     let g = guardByte κs result in
-    let env : List ℕ = 0 ∷ 0 ∷ 0 ∷ 0 ∷ n .ram ∷ n .guard ∷ [] in
     let same : kindsFrom k g 0 (length κs) ≡ κs = kinds-back κs result few .0 in
-    let are = rw same at (values-are t k g short n ls (byte-small κs result few) (length κs) i env (omega arith) (omega arith) (rw same h)) in
-    let above : (j : ℕ) → 4 ≤ j → getD (valuesInto (signatureFor κs result) n (length κs) i env) j 0 ≡ getD env j 0 =
-    λ j l. values-above (signatureFor κs result) n (length κs) i env j (omega arith) in
+    let are = rw same at (values-are t k g short n ls (byte-small κs result few) (length κs) i (blank n) (omega arith) (omega arith) (rw same h)) in
+    let above : (j : ℕ) → 4 ≤ j → getD (valuesInto (signatureFor κs result) n (length κs) i (blank n)) j 0 ≡ getD (blank n) j 0 =
+    λ j l. values-above (signatureFor κs result) n (length κs) i (blank n) j (omega arith) in
     record {
-      value = λ j v e. rw are (number-there (valuesAt t κs i) (drop (length κs) env) j v e);
-      ram = above 4 (omega arith);
-      guard = above 5 (omega arith);
+      value = λ j v e. rw are (number-there (valuesAt t κs i) (drop (length κs) (blank n)) j v e);
+      ends = record { ram = above 4 (omega arith) ∙ rw (ls .ram); guard = above 5 (omega arith) ∙ rw (ls .guard) };
     }

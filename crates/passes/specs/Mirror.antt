@@ -9,7 +9,7 @@ use lib.ListN.{length, getD, set, take, drop, replicate}
 use Rattle.trace.specs.{mostSamples}
 use Rattle.semantics.specs.Cells.{undecidedCode}
 use Rattle.codes.specs.declared.Lengths.{Lengths}
-use Rattle.codes.specs.{mostTraceBytes, Short, radixOf, valueCode, lowestCode, cellCode}
+use Rattle.codes.specs.{mostTraceBytes, ramEnd, guardEnd, Short, radixOf, valueCode, lowestCode, cellCode}
 use Rattle.syntax.specs.Limits.{mostFunctions, mostBytes, mostDepth}
 use Rattle.syntax.specs.Kinds.{signatureOf, kindIn}
 use Rattle.rule.specs.Form.{padded}
@@ -102,9 +102,13 @@ bodyAt words start = getD words (start % mostBytes) 0
 abbrev pub sizeOf : List ℕ → Lengths → ℕ → ℕ
 sizeOf functions n g = sizeFrom (kindsOf functions g) n 0 (countOf functions g)
 
--- the parameter values of configuration `index` of a function, with the lengths of the traces
+-- what parameter values are put into; at 4 and 5 it has what places of samples are worked out from
+abbrev pub blank : Lengths → List ℕ
+blank n = 0 ∷ 0 ∷ 0 ∷ 0 ∷ (n .ram + ramEnd) ∷ (n .guard + guardEnd) ∷ []
+
+-- the parameter values of configuration `index` of a function
 abbrev pub envAt : List ℕ → Lengths → ℕ → ℕ → List ℕ
-envAt functions n g index = valuesInto (kindsOf functions g) n (countOf functions g) index (0 ∷ 0 ∷ 0 ∷ 0 ∷ n .ram ∷ n .guard ∷ [])
+envAt functions n g index = valuesInto (kindsOf functions g) n (countOf functions g) index (blank n)
 
 -- the number of the outcome of a configuration's body, with calls looked up in the table
 unfoldable pub filledAt : Setup → Lengths → ℕ → ℕ → List ℕ → ℕ → ℕ

@@ -89,7 +89,14 @@ fn pass_function(
     let others = configurations::last(count);
     let rows = configurations::size(kinds, others, n);
     let width = configurations::row_width(kinds, count, n) as usize;
-    let mut env = [0, 0, 0, 0, n.ram, n.guard];
+    let mut env = [
+        0,
+        0,
+        0,
+        0,
+        n.ram + codes::RAM_END,
+        n.guard + codes::GUARD_END,
+    ];
     configurations::values(kinds, others, n, 0, &mut env);
     let mut stored: usize = 0;
     let mut base: usize = 0;

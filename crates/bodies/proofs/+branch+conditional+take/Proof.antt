@@ -26,8 +26,7 @@ use Prim.Native.Nat.{_+_, _*_}
 use mathlib.Core.Path.{_≡_, refl, sym, _∙_}
 use native.Mathlib.Omega.{arith}
 use borrow.Author.Needs.{needs}
-use Rattle.codes.specs.{nullOf}
-use Rattle.evaluator.specs.{headIn}
+use Rattle.codes.specs.{headOf, nullOf}
 use Rattle.evaluator.proofs.EvalWays.{branch-true, branch-false, branch-other}
 use Rattle.bodies.proofs.SpineWays.{sort-at, fused-at, branch-long}
 
@@ -147,12 +146,6 @@ conditional-returns-2 t c =
     (rw (c .before .null .ensures) at (c .branch .ensures))
     ∙ sym (fused-at _ _ _ _ _ _ 10 (λ (v : ℕ). nullOf v) (λ eval. refl) (c .before .before .before .if1 .taken) (c .before .before .before .before .param .ensures))
 
-conditional-element-copy-out-head : (t : ℕ) → conditional-lts.Need-element-copy-out-head (conditional-claims t) (conditional-at t) conditional.Post
-conditional-element-copy-out-head t c = omega arith
-
-conditional-element-copy-out-head-2 : (t : ℕ) → conditional-lts.Need-element-copy-out-head-2 (conditional-claims t) (conditional-at t) conditional.Post
-conditional-element-copy-out-head-2 t c = omega arith
-
 conditional-head-requires : (t : ℕ) → conditional-lts.Need-head-requires (conditional-claims t) (conditional-at t) conditional.Post
 conditional-head-requires t c κs = search needs
 
@@ -161,9 +154,9 @@ conditional-branch-requires-2 t c κs = (omega arith, omega arith)
 
 conditional-returns-3 : (t : ℕ) → conditional-lts.Need-returns-3 (conditional-claims t) (conditional-at t) conditional.Post
 conditional-returns-3 t c =
-    let a = c .before .before .before .before .before .before .before .args in
+    let a = c .before .before .before .before .before .args in
     (rw (c .before .head .ensures) at (c .branch2 .ensures))
-    ∙ sym (fused-at _ _ _ _ _ _ 11 (λ (v : ℕ). headIn (a .traces .now) (a .env .now) v) (λ eval. refl) (c .before .before .before .before .if3 .taken) (c .before .before .before .before .before .before .param .ensures))
+    ∙ sym (fused-at _ _ _ _ _ _ 11 (λ (v : ℕ). headOf (a .traces .now) (a .env .now) v) (λ eval. refl) (c .before .before .if3 .taken) (c .before .before .before .before .param .ensures))
 
 conditional-branch-requires-3 : (t : ℕ) → conditional-lts.Need-branch-requires-3 (conditional-claims t) (conditional-at t) conditional.Post
 conditional-branch-requires-3 t c κs = (omega arith, omega arith)
@@ -238,8 +231,6 @@ pub +branch+conditional+take-spec : {M : Type 1} → statement M
     (conditional-null-requires t)
     (conditional-branch-requires t)
     (conditional-returns-2 t)
-    (conditional-element-copy-out-head t)
-    (conditional-element-copy-out-head-2 t)
     (conditional-head-requires t)
     (conditional-branch-requires-2 t)
     (conditional-returns-3 t)

@@ -107,34 +107,25 @@ loop-again c =
           (c .before .values2 .ensures) few (not-below _ _ _ digit (c .before .values2 .ensures) few) (next-index-is _ _ _ (omega (arith, c .before .values2 .ensures)) (omega (arith, few, c .before .values2 .ensures)) (c .next-index .ensures .0)) (c .next-index .ensures .1),
     )
 
-mul-working : tie.Need-mul-working Inv-loop μ-loop
-mul-working c = omega (arith, c .before .loop .inv .0)
-
-element-copy-out-working : tie.Need-element-copy-out-working Inv-loop μ-loop
-element-copy-out-working c = omega (arith, c .before .loop .inv .0)
-
 mul-lookup : tie.Need-mul-lookup Inv-loop μ-loop
-mul-lookup c = omega (arith, c .before .before .loop .inv .0)
+mul-lookup c = omega (arith, c .before .loop .inv .0)
 
 element-copy-out-lookup : tie.Need-element-copy-out-lookup Inv-loop μ-loop
-element-copy-out-lookup c = omega (arith, c .before .before .loop .inv .0)
+element-copy-out-lookup c = omega (arith, c .before .loop .inv .0)
 
 lookup-requires : tie.Need-lookup-requires Inv-loop μ-loop
 lookup-requires c κs = search needs
 
-working-requires : tie.Need-working-requires Inv-loop μ-loop
-working-requires c κs = search needs
-
 returns-3 : tie.Need-returns-3 Inv-loop μ-loop
 unfolding callAt
 returns-3 c =
-    let at = c .before .before .before .before .before in
+    let at = c .before .before .before in
     let begun = at .before .before .before .before in
     let a = begun .args in
-    lookup-is _ _ _ (at .loop .inv .1 .small) (c .before .lookup .ensures) (c .working .ensures)
+    lookup-is _ _ _ (at .loop .inv .1 .small) (c .lookup .ensures)
     ∙ sym (call-at _ _ _ _ (a .depth) (a .node) (omega (arith, begun .pre .0)) (begun .pre .1)
     ∙ sym (args-count _ _ _ _ _ (at .before .before .count .ensures))
-    ∙ along-end (at .loop .inv .1) (c .before .before .before .before .loop-test .left) (function-at (a .words .now) _ (at .loop .inv .0)))
+    ∙ along-end (at .loop .inv .1) (c .before .before .loop-test .left) (function-at (a .words .now) _ (at .loop .inv .0)))
 
 pub call-spec : {M : Type 1} → statement M
 call-spec =
@@ -164,10 +155,7 @@ call-spec =
     add-i
     loop-less
     loop-again
-    mul-working
-    element-copy-out-working
     mul-lookup
     element-copy-out-lookup
     lookup-requires
-    working-requires
     returns-3)

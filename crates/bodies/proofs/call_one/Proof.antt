@@ -57,34 +57,25 @@ returns-2 c =
     sym (call-one-at _ _ _ _ (a .depth) (a .node) (omega (arith, begun .pre .0)) (begun .pre .1)
     ∙ one-stop _ _ _ _ _ (first-param-at (a .words .now) _ place) value (c .before .before .digit .ensures) (c .before .values .ensures) (c .if2 .taken))
 
-mul-working : tie.Need-mul-working
-mul-working c = omega (arith, c .before .before .before .before .callee .ensures)
-
-element-copy-out-working : tie.Need-element-copy-out-working
-element-copy-out-working c = omega (arith, c .before .before .before .before .callee .ensures)
-
 mul-lookup : tie.Need-mul-lookup
-mul-lookup c = omega (arith, c .before .before .before .before .before .callee .ensures)
+mul-lookup c = omega (arith, c .before .before .before .before .callee .ensures)
 
 element-copy-out-lookup : tie.Need-element-copy-out-lookup
-element-copy-out-lookup c = omega (arith, c .before .before .before .before .before .callee .ensures)
+element-copy-out-lookup c = omega (arith, c .before .before .before .before .callee .ensures)
 
 lookup-requires : tie.Need-lookup-requires
 lookup-requires c κs = search needs
 
-working-requires : tie.Need-working-requires
-working-requires c κs = search needs
-
 returns-3 : tie.Need-returns-3
 unfolding callOneAt
 returns-3 c =
-    let tested = c .before .before .before .before in
+    let tested = c .before .before in
     let called = tested .before .before .before .before in
     let begun = called .before .before .before .before in
     let a = begun .args in
     let place : 4096 + 8 * called .callee .result ≡ 4096 + 8 * calleeOf (a .node) = omega (arith, called .callee .ensures) in
     let value = leaf-at _ _ _ _ (a .depth) _ (called .before .before .leaf .ensures) (called .before .if1 .left) (begun .pre .0) (called .before .before .before .first .ensures) in
-    lookup-is _ _ _ (omega (arith, tested .if2 .left, tested .before .values .ensures)) (c .before .lookup .ensures) (c .working .ensures)
+    lookup-is _ _ _ (omega (arith, tested .if2 .left, tested .before .values .ensures)) (c .lookup .ensures)
     ∙ sym (call-one-at _ _ _ _ (a .depth) (a .node) (omega (arith, begun .pre .0)) (begun .pre .1)
     ∙ one-found _ _ _ _ _ (first-param-at (a .words .now) _ place) value (tested .before .before .digit .ensures) (tested .before .values .ensures) (tested .if2 .left)
     (function-at (a .words .now) _ place))
@@ -106,10 +97,7 @@ call-one-spec =
     digit-requires
     values-requires
     returns-2
-    mul-working
-    element-copy-out-working
     mul-lookup
     element-copy-out-lookup
     lookup-requires
-    working-requires
     returns-3)

@@ -25,12 +25,6 @@ plain-requires c κs = search needs
 returns-2 : tie.Need-returns-2
 returns-2 c = plain-leaf _ _ _ (c .before .before .before .sort .ensures) (c .before .if2 .taken) (c .plain .ensures)
 
-element-copy-out-head : tie.Need-element-copy-out-head
-element-copy-out-head c = search needs
-
-element-copy-out-head-2 : tie.Need-element-copy-out-head-2
-element-copy-out-head-2 c = search needs
-
 param-requires-2 : tie.Need-param-requires-2
 param-requires-2 c κs = search needs
 
@@ -39,7 +33,7 @@ head-requires c κs = search needs
 
 returns-3 : tie.Need-returns-3
 returns-3 c =
-    leaf-by _ _ _ 5 (c .before .before .before .before .before .before .before .sort .ensures) (c .before .before .before .before .if3 .taken)
+    leaf-by _ _ _ 5 (c .before .before .before .before .before .sort .ensures) (c .before .before .if3 .taken)
     (λ W T eval. sym (rw (c .before .param2 .ensures) at (c .head .ensures)))
 
 returns-4 : tie.Need-returns-4
@@ -55,8 +49,6 @@ leaf-spec =
     returns
     plain-requires
     returns-2
-    element-copy-out-head
-    element-copy-out-head-2
     param-requires-2
     head-requires
     returns-3

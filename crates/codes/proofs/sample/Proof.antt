@@ -22,9 +22,6 @@ bit-code x = digit-code (x % 2) (omega arith)
 cast-wide : tie.Need-cast-wide
 cast-wide c = search needs
 
-add-wide : tie.Need-add-wide
-add-wide c = search needs
-
 element-copy-out-wide : tie.Need-element-copy-out-wide
 element-copy-out-wide c = search needs
 
@@ -41,10 +38,10 @@ returns : tie.Need-returns
 unfolding bitOf
 returns c =
     let a = c .before .before .args in
-    let byte = getD (a .traces .now) (a .from + a .i / 8 % 512) 0 in
+    let byte = getD (a .traces .now) (a .i / 8 % 1024) 0 in
     ap (λ (b : ℕ). b / 2 ^ (a .i % 8) % 2 + 1) (c .wide .ensures) ∙ bit-code (byte / 2 ^ (a .i % 8))
 
 pub sample-spec : {M : Type 1} → statement M
 sample-spec =
     tie.close
-    (tie.spec cast-wide add-wide element-copy-out-wide wide-requires shr-result add-result returns)
+    (tie.spec cast-wide element-copy-out-wide wide-requires shr-result add-result returns)

@@ -17,11 +17,11 @@ use Rattle.evaluator.proofs.+branch+call+call_one+eval+operand.Lts-eval
 use Rattle.evaluator.proofs.operand.Reads as operand
 use Rattle.evaluator.proofs.operand.Kinds as operand-kinds
 use Rattle.evaluator.proofs.+branch+call+call_one+eval+operand.Lts-operand as operand-lts
+use Rattle.codes.proofs.guarded.Reads as guarded-reads
 use Rattle.codes.proofs.head.Reads as head-reads
 use Rattle.codes.proofs.null.Reads as null-reads
 use Rattle.codes.proofs.tail.Reads as tail-reads
 use Rattle.decoding.proofs.functions.values.Reads as values-reads
-use Rattle.decoding.proofs.functions.working.Reads as working-reads
 use Rattle.decoding.proofs.nodes.at.Reads as at-reads
 use Rattle.decoding.proofs.nodes.callee.Reads as callee-reads
 use Rattle.decoding.proofs.nodes.constant.Reads as constant-reads
@@ -121,8 +121,6 @@ call-claims t = (
   next-index-reads.Learnt,
   lookup-reads.Asked,
   lookup-reads.Learnt,
-  working-reads.Asked,
-  working-reads.Learnt,
 )
 
 abbrev call-one-claims : ℕ → call-one-lts.Claims
@@ -139,8 +137,6 @@ call-one-claims t = (
   values-reads.Learnt,
   lookup-reads.Asked,
   lookup-reads.Learnt,
-  working-reads.Asked,
-  working-reads.Learnt,
 )
 
 abbrev eval-claims : ℕ → eval-lts.Claims
@@ -169,6 +165,8 @@ eval-claims t = (
   call.Post,
   call-one-below t,
   call-one.Post,
+  guarded-reads.Asked,
+  guarded-reads.Learnt,
 )
 
 abbrev operand-claims : ℕ → operand-lts.Claims
@@ -302,31 +300,22 @@ call-loop-again t c =
           (c .before .values2 .ensures) few (not-below _ _ _ digit (c .before .values2 .ensures) few) (next-index-is _ _ _ (omega (arith, c .before .values2 .ensures)) (omega (arith, few, c .before .values2 .ensures)) (c .next-index .ensures .0)) (c .next-index .ensures .1),
     )
 
-call-mul-working : (t : ℕ) → call-lts.Need-mul-working (call-claims t) (call-at t) call.Post call-Inv-loop call-μ-loop
-call-mul-working t c = omega (arith, c .before .loop .inv .0)
-
-call-element-copy-out-working : (t : ℕ) → call-lts.Need-element-copy-out-working (call-claims t) (call-at t) call.Post call-Inv-loop call-μ-loop
-call-element-copy-out-working t c = omega (arith, c .before .loop .inv .0)
-
 call-mul-lookup : (t : ℕ) → call-lts.Need-mul-lookup (call-claims t) (call-at t) call.Post call-Inv-loop call-μ-loop
-call-mul-lookup t c = omega (arith, c .before .before .loop .inv .0)
+call-mul-lookup t c = omega (arith, c .before .loop .inv .0)
 
 call-element-copy-out-lookup : (t : ℕ) → call-lts.Need-element-copy-out-lookup (call-claims t) (call-at t) call.Post call-Inv-loop call-μ-loop
-call-element-copy-out-lookup t c = omega (arith, c .before .before .loop .inv .0)
+call-element-copy-out-lookup t c = omega (arith, c .before .loop .inv .0)
 
 call-lookup-requires : (t : ℕ) → call-lts.Need-lookup-requires (call-claims t) (call-at t) call.Post call-Inv-loop call-μ-loop
 call-lookup-requires t c κs = search needs
 
-call-working-requires : (t : ℕ) → call-lts.Need-working-requires (call-claims t) (call-at t) call.Post call-Inv-loop call-μ-loop
-call-working-requires t c κs = search needs
-
 call-returns-2 : (t : ℕ) → call-lts.Need-returns-2 (call-claims t) (call-at t) call.Post call-Inv-loop call-μ-loop
 unfolding callAt
 call-returns-2 t c =
-    let at = c .before .before .before .before .before in
+    let at = c .before .before .before in
     let W = at .before .before .before .before .args .words .now in
-    lookup-is _ _ _ (at .loop .inv .1 .small) (c .before .lookup .ensures) (c .working .ensures)
-    ∙ sym (along-end (at .loop .inv .1) (c .before .before .before .before .loop-test .left) (function-at W _ (at .loop .inv .0)))
+    lookup-is _ _ _ (at .loop .inv .1 .small) (c .lookup .ensures)
+    ∙ sym (along-end (at .loop .inv .1) (c .before .before .loop-test .left) (function-at W _ (at .loop .inv .0)))
     ∙ args-count _ _ _ _ _ (at .before .before .count .ensures)
 
 call-one-callee-requires : (t : ℕ) → call-one-lts.Need-callee-requires (call-one-claims t) (call-one-at t) call-one.Post
@@ -369,32 +358,23 @@ call-one-returns t c =
     (c .before .before .before .before .operand .ensures ∙ ap (evalWord _ _ _ _ _) (c .before .before .before .before .before .first .ensures)) (c .before .before .digit .ensures) (c .before .values .ensures)
     (c .if1 .taken))
 
-call-one-mul-working : (t : ℕ) → call-one-lts.Need-mul-working (call-one-claims t) (call-one-at t) call-one.Post
-call-one-mul-working t c = omega (arith, c .before .before .before .before .before .before .callee .ensures)
-
-call-one-element-copy-out-working : (t : ℕ) → call-one-lts.Need-element-copy-out-working (call-one-claims t) (call-one-at t) call-one.Post
-call-one-element-copy-out-working t c = omega (arith, c .before .before .before .before .before .before .callee .ensures)
-
 call-one-mul-lookup : (t : ℕ) → call-one-lts.Need-mul-lookup (call-one-claims t) (call-one-at t) call-one.Post
-call-one-mul-lookup t c = omega (arith, c .before .before .before .before .before .before .before .callee .ensures)
+call-one-mul-lookup t c = omega (arith, c .before .before .before .before .before .before .callee .ensures)
 
 call-one-element-copy-out-lookup : (t : ℕ) → call-one-lts.Need-element-copy-out-lookup (call-one-claims t) (call-one-at t) call-one.Post
-call-one-element-copy-out-lookup t c = omega (arith, c .before .before .before .before .before .before .before .callee .ensures)
+call-one-element-copy-out-lookup t c = omega (arith, c .before .before .before .before .before .before .callee .ensures)
 
 call-one-lookup-requires : (t : ℕ) → call-one-lts.Need-lookup-requires (call-one-claims t) (call-one-at t) call-one.Post
 call-one-lookup-requires t c κs = search needs
 
-call-one-working-requires : (t : ℕ) → call-one-lts.Need-working-requires (call-one-claims t) (call-one-at t) call-one.Post
-call-one-working-requires t c κs = search needs
-
 call-one-returns-2 : (t : ℕ) → call-one-lts.Need-returns-2 (call-one-claims t) (call-one-at t) call-one.Post
 unfolding callOneAt
 call-one-returns-2 t c =
-    let tested = c .before .before .before .before in
+    let tested = c .before .before in
     let called = tested .before .before .before .before .before .before in
     let W = called .before .args .words .now in
     let place : 4096 + 8 * called .callee .result ≡ 4096 + 8 * calleeOf (called .before .args .node) = omega (arith, called .callee .ensures) in
-    lookup-is _ _ _ (omega (arith, tested .if1 .left, tested .before .values .ensures)) (c .before .lookup .ensures) (c .working .ensures)
+    lookup-is _ _ _ (omega (arith, tested .if1 .left, tested .before .values .ensures)) (c .lookup .ensures)
     ∙ sym (one-found _ _ _ _ _ (first-param-at W _ place)
     (tested .before .before .before .before .operand .ensures ∙ ap (evalWord _ _ _ _ _) (tested .before .before .before .before .before .first .ensures))
     (tested .before .before .digit .ensures) (tested .before .values .ensures) (tested .if1 .left) (function-at W _ place))
@@ -413,12 +393,6 @@ eval-constant-requires t c κs = search needs
 
 eval-param-requires : (t : ℕ) → eval-lts.Need-param-requires (eval-claims t) (eval-at t) eval.Post
 eval-param-requires t c κs = search needs
-
-eval-element-copy-out-head : (t : ℕ) → eval-lts.Need-element-copy-out-head (eval-claims t) (eval-at t) eval.Post
-eval-element-copy-out-head t c = omega arith
-
-eval-element-copy-out-head-2 : (t : ℕ) → eval-lts.Need-element-copy-out-head-2 (eval-claims t) (eval-at t) eval.Post
-eval-element-copy-out-head-2 t c = omega arith
 
 eval-first-requires : (t : ℕ) → eval-lts.Need-first-requires (eval-claims t) (eval-at t) eval.Post
 eval-first-requires t c κs = search needs
@@ -446,12 +420,6 @@ eval-operand-requires-3 t c κs = (omega arith, tt)
 
 eval-null-requires : (t : ℕ) → eval-lts.Need-null-requires (eval-claims t) (eval-at t) eval.Post
 eval-null-requires t c κs = search needs
-
-eval-element-copy-out-head-3 : (t : ℕ) → eval-lts.Need-element-copy-out-head-3 (eval-claims t) (eval-at t) eval.Post
-eval-element-copy-out-head-3 t c = omega arith
-
-eval-element-copy-out-head-4 : (t : ℕ) → eval-lts.Need-element-copy-out-head-4 (eval-claims t) (eval-at t) eval.Post
-eval-element-copy-out-head-4 t c = omega arith
 
 eval-param-requires-2 : (t : ℕ) → eval-lts.Need-param-requires-2 (eval-claims t) (eval-at t) eval.Post
 eval-param-requires-2 t c κs = search needs
@@ -495,12 +463,6 @@ eval-null-requires-3 t c κs = search needs
 eval-branch-requires-3 : (t : ℕ) → eval-lts.Need-branch-requires-3 (eval-claims t) (eval-at t) eval.Post
 eval-branch-requires-3 t c κs = (omega arith, tt)
 
-eval-element-copy-out-head-5 : (t : ℕ) → eval-lts.Need-element-copy-out-head-5 (eval-claims t) (eval-at t) eval.Post
-eval-element-copy-out-head-5 t c = omega arith
-
-eval-element-copy-out-head-6 : (t : ℕ) → eval-lts.Need-element-copy-out-head-6 (eval-claims t) (eval-at t) eval.Post
-eval-element-copy-out-head-6 t c = omega arith
-
 eval-param-requires-7 : (t : ℕ) → eval-lts.Need-param-requires-7 (eval-claims t) (eval-at t) eval.Post
 eval-param-requires-7 t c κs = search needs
 
@@ -516,6 +478,12 @@ eval-call-requires t c κs = (omega arith, tt)
 eval-call-one-requires : (t : ℕ) → eval-lts.Need-call-one-requires (eval-claims t) (eval-at t) eval.Post
 eval-call-one-requires t c κs = (omega arith, tt)
 
+eval-call-requires-2 : (t : ℕ) → eval-lts.Need-call-requires-2 (eval-claims t) (eval-at t) eval.Post
+eval-call-requires-2 t c κs = (omega arith, tt)
+
+eval-guarded-requires : (t : ℕ) → eval-lts.Need-guarded-requires (eval-claims t) (eval-at t) eval.Post
+eval-guarded-requires t c κs = search needs
+
 eval-returns-2 : (t : ℕ) → eval-lts.Need-returns-2 (eval-claims t) (eval-at t) eval.Post
 eval-returns-2 t c = c .constant .ensures ∙ sym (at-sort t (c .before .before) 0 (c .before .match .keys1))
 
@@ -523,7 +491,7 @@ eval-returns-3 : (t : ℕ) → eval-lts.Need-returns-3 (eval-claims t) (eval-at 
 eval-returns-3 t c = c .param .ensures ∙ sym (at-sort t (c .before .before) 1 (c .before .match .keys2))
 
 eval-returns-4 : (t : ℕ) → eval-lts.Need-returns-4 (eval-claims t) (eval-at t) eval.Post
-eval-returns-4 t c = (rw (c .before .operand .ensures, c .before .before .first .ensures) at (c .head .ensures)) ∙ sym (at-sort t (c .before .before .before .before .before .before) 2 (c .before .before .before .before .before .match .keys3))
+eval-returns-4 t c = (rw (c .before .operand .ensures, c .before .before .first .ensures) at (c .head .ensures)) ∙ sym (at-sort t (c .before .before .before .before) 2 (c .before .before .before .match .keys3))
 
 eval-returns-5 : (t : ℕ) → eval-lts.Need-returns-5 (eval-claims t) (eval-at t) eval.Post
 eval-returns-5 t c = (rw (c .before .operand2 .ensures, c .before .before .first2 .ensures) at (c .tail .ensures)) ∙ sym (at-sort t (c .before .before .before .before) 3 (c .before .before .before .match .keys4))
@@ -532,7 +500,7 @@ eval-returns-6 : (t : ℕ) → eval-lts.Need-returns-6 (eval-claims t) (eval-at 
 eval-returns-6 t c = (rw (c .before .operand3 .ensures, c .before .before .first3 .ensures) at (c .null .ensures)) ∙ sym (at-sort t (c .before .before .before .before) 4 (c .before .before .before .match .keys5))
 
 eval-returns-7 : (t : ℕ) → eval-lts.Need-returns-7 (eval-claims t) (eval-at t) eval.Post
-eval-returns-7 t c = (rw (c .before .param2 .ensures) at (c .head2 .ensures)) ∙ sym (at-sort t (c .before .before .before .before .before) 5 (c .before .before .before .before .match .keys6))
+eval-returns-7 t c = (rw (c .before .param2 .ensures) at (c .head2 .ensures)) ∙ sym (at-sort t (c .before .before .before) 5 (c .before .before .match .keys6))
 
 eval-returns-8 : (t : ℕ) → eval-lts.Need-returns-8 (eval-claims t) (eval-at t) eval.Post
 eval-returns-8 t c = (rw (c .before .param3 .ensures) at (c .tail2 .ensures)) ∙ sym (at-sort t (c .before .before .before) 6 (c .before .before .match .keys7))
@@ -554,7 +522,7 @@ eval-returns-12 t c = (rw (c .before .null3 .ensures, c .before .before .param6 
 
 eval-returns-13 : (t : ℕ) → eval-lts.Need-returns-13 (eval-claims t) (eval-at t) eval.Post
 unfolding branchAt
-eval-returns-13 t c = (rw (c .before .head3 .ensures, c .before .before .param7 .ensures) at (c .branch4 .ensures)) ∙ sym (at-sort t (c .before .before .before .before .before .before) 11 (c .before .before .before .before .before .match .keys12))
+eval-returns-13 t c = (rw (c .before .head3 .ensures, c .before .before .param7 .ensures) at (c .branch4 .ensures)) ∙ sym (at-sort t (c .before .before .before .before) 11 (c .before .before .before .match .keys12))
 
 eval-returns-14 : (t : ℕ) → eval-lts.Need-returns-14 (eval-claims t) (eval-at t) eval.Post
 unfolding callAt
@@ -565,7 +533,8 @@ unfolding callOneAt
 eval-returns-15 t c = c .call-one .ensures ∙ sym (at-sort t (c .before .before) 13 (c .before .match .keys14))
 
 eval-returns-16 : (t : ℕ) → eval-lts.Need-returns-16 (eval-claims t) (eval-at t) eval.Post
-eval-returns-16 t c = sym (at-sort t (c .before) 14 (c .match .keys15))
+unfolding callAt
+eval-returns-16 t c = (rw (c .before .call2 .ensures) at (c .guarded .ensures)) ∙ sym (at-sort t (c .before .before .before) 14 (c .before .before .match .keys15))
 
 eval-returns-17 : (t : ℕ) → eval-lts.Need-returns-17 (eval-claims t) (eval-at t) eval.Post
 eval-returns-17 t c = sym (at-sort t (c .before) 15 (c .match .keys16))
@@ -594,12 +563,6 @@ operand-param-requires-2 t c κs = search needs
 operand-returns-3 : (t : ℕ) → operand-lts.Need-returns-3 (operand-claims t) (operand-at t) operand.Post
 operand-returns-3 t c = c .param2 .ensures ∙ sym (eval-sort _ _ _ _ _ _ (c .before .before .before .before .if1 .left) 1 (c .before .before .before .sort .ensures) (c .before .if3 .taken))
 
-operand-element-copy-out-head : (t : ℕ) → operand-lts.Need-element-copy-out-head (operand-claims t) (operand-at t) operand.Post
-operand-element-copy-out-head t c = omega arith
-
-operand-element-copy-out-head-2 : (t : ℕ) → operand-lts.Need-element-copy-out-head-2 (operand-claims t) (operand-at t) operand.Post
-operand-element-copy-out-head-2 t c = omega arith
-
 operand-param-requires-3 : (t : ℕ) → operand-lts.Need-param-requires-3 (operand-claims t) (operand-at t) operand.Post
 operand-param-requires-3 t c κs = search needs
 
@@ -607,7 +570,7 @@ operand-head-requires : (t : ℕ) → operand-lts.Need-head-requires (operand-cl
 operand-head-requires t c κs = search needs
 
 operand-returns-4 : (t : ℕ) → operand-lts.Need-returns-4 (operand-claims t) (operand-at t) operand.Post
-operand-returns-4 t c = (rw (c .before .param3 .ensures) at (c .head .ensures)) ∙ sym (eval-sort _ _ _ _ _ _ (c .before .before .before .before .before .before .before .before .if1 .left) 5 (c .before .before .before .before .before .before .before .sort .ensures) (c .before .before .before .before .if4 .taken))
+operand-returns-4 t c = (rw (c .before .param3 .ensures) at (c .head .ensures)) ∙ sym (eval-sort _ _ _ _ _ _ (c .before .before .before .before .before .before .if1 .left) 5 (c .before .before .before .before .before .sort .ensures) (c .before .before .if4 .taken))
 
 operand-eval-requires : (t : ℕ) → operand-lts.Need-eval-requires (operand-claims t) (operand-at t) operand.Post
 operand-eval-requires t c κs = (omega arith, tt)
@@ -652,12 +615,9 @@ pub +branch+call+call-one+eval+operand-spec : {M : Type 1} → statement M
     (call-add-i t)
     (call-loop-less t)
     (call-loop-again t)
-    (call-mul-working t)
-    (call-element-copy-out-working t)
     (call-mul-lookup t)
     (call-element-copy-out-lookup t)
     (call-lookup-requires t)
-    (call-working-requires t)
     (call-returns-2 t))
     (λ t. call-one-lts.spec (call-one-claims t)
     (call-one-at t)
@@ -673,12 +633,9 @@ pub +branch+call+call-one+eval+operand-spec : {M : Type 1} → statement M
     (call-one-digit-requires t)
     (call-one-values-requires t)
     (call-one-returns t)
-    (call-one-mul-working t)
-    (call-one-element-copy-out-working t)
     (call-one-mul-lookup t)
     (call-one-element-copy-out-lookup t)
     (call-one-lookup-requires t)
-    (call-one-working-requires t)
     (call-one-returns-2 t))
     (λ t. eval-lts.spec (eval-claims t)
     (eval-at t)
@@ -688,8 +645,6 @@ pub +branch+call+call-one+eval+operand-spec : {M : Type 1} → statement M
     (eval-sort-requires t)
     (eval-constant-requires t)
     (eval-param-requires t)
-    (eval-element-copy-out-head t)
-    (eval-element-copy-out-head-2 t)
     (eval-first-requires t)
     (eval-operand-requires t)
     (eval-head-requires t)
@@ -699,8 +654,6 @@ pub +branch+call+call-one+eval+operand-spec : {M : Type 1} → statement M
     (eval-first-requires-3 t)
     (eval-operand-requires-3 t)
     (eval-null-requires t)
-    (eval-element-copy-out-head-3 t)
-    (eval-element-copy-out-head-4 t)
     (eval-param-requires-2 t)
     (eval-head-requires-2 t)
     (eval-param-requires-3 t)
@@ -715,13 +668,13 @@ pub +branch+call+call-one+eval+operand-spec : {M : Type 1} → statement M
     (eval-param-requires-6 t)
     (eval-null-requires-3 t)
     (eval-branch-requires-3 t)
-    (eval-element-copy-out-head-5 t)
-    (eval-element-copy-out-head-6 t)
     (eval-param-requires-7 t)
     (eval-head-requires-3 t)
     (eval-branch-requires-4 t)
     (eval-call-requires t)
     (eval-call-one-requires t)
+    (eval-call-requires-2 t)
+    (eval-guarded-requires t)
     (eval-returns-2 t)
     (eval-returns-3 t)
     (eval-returns-4 t)
@@ -749,8 +702,6 @@ pub +branch+call+call-one+eval+operand-spec : {M : Type 1} → statement M
     (operand-returns-2 t)
     (operand-param-requires-2 t)
     (operand-returns-3 t)
-    (operand-element-copy-out-head t)
-    (operand-element-copy-out-head-2 t)
     (operand-param-requires-3 t)
     (operand-head-requires t)
     (operand-returns-4 t)

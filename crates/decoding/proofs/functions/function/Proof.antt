@@ -1,7 +1,7 @@
 -- `function` meets its contract: the parts fit into their bits.
 use native.Mathlib.Omega.{arith}
 use Rattle.decoding.specs.Words.{functionWord}
-use Rattle.decoding.proofs.Packing.{least-small, shift-small}
+use Rattle.decoding.proofs.Packing.{least-small}
 use borrow.Author.Needs.{needs}
 use Rattle.decoding.proofs.functions.function.Statement.{statement}
 use Rattle.decoding.proofs.functions.function.Tie as tie
@@ -15,43 +15,18 @@ mul-result c = omega (arith, c .least .ensures, least-small (c .before .args .ki
 add-result : tie.Need-add-result
 add-result c = omega (arith, c .least .ensures, least-small (c .before .args .kind))
 
-shift-requires : tie.Need-shift-requires
-shift-requires c κs = search needs
-
-mul-result-2 : tie.Need-mul-result-2
-mul-result-2 c = omega (arith, c .shift .ensures, shift-small (c .before .before .args .kind))
-
-add-result-2 : tie.Need-add-result-2
-add-result-2 c =
-    let kind = c .before .before .args .kind in
-    omega (arith, c .before .least .ensures, least-small kind, c .shift .ensures, shift-small kind)
-
 most-requires : tie.Need-most-requires
 most-requires c κs = search needs
 
-mul-result-3 : tie.Need-mul-result-3
-mul-result-3 c = search needs
+mul-result-2 : tie.Need-mul-result-2
+mul-result-2 c = search needs
 
-add-result-3 : tie.Need-add-result-3
-add-result-3 c =
-    let kind = c .before .before .before .args .kind in
-    omega (arith, c .before .before .least .ensures, least-small kind, c .before .shift .ensures, shift-small kind)
+add-result-2 : tie.Need-add-result-2
+add-result-2 c = omega (arith, c .before .least .ensures, least-small (c .before .before .args .kind))
 
 returns : tie.Need-returns
 unfolding functionWord
-returns c = rw (c .before .before .least .ensures, c .before .shift .ensures, c .most .ensures)
+returns c = rw (c .before .least .ensures, c .most .ensures)
 
 pub function-spec : {M : Type 1} → statement M
-function-spec =
-    tie.close
-    (tie.spec
-    least-requires
-    mul-result
-    add-result
-    shift-requires
-    mul-result-2
-    add-result-2
-    most-requires
-    mul-result-3
-    add-result-3
-    returns)
+function-spec = tie.close (tie.spec least-requires mul-result add-result most-requires mul-result-2 add-result-2 returns)

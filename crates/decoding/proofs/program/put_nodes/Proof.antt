@@ -7,16 +7,16 @@ use Rattle.decoding.proofs.program.put_nodes.Statement.{statement}
 use Rattle.decoding.proofs.program.put_nodes.Tie as tie
 
 abbrev Inv-loop : tie.InvT-loop
-Inv-loop program params words₀ ends₀ at₀ words ends at = Swept program params words₀ at₀ ends words at
+Inv-loop program params functions words₀ ends₀ at₀ words ends at = Swept program params functions words₀ at₀ ends words at
 
 abbrev μ-loop : tie.MeasureT-loop
-μ-loop program params words₀ ends₀ at₀ words ends at = at
+μ-loop program params functions words₀ ends₀ at₀ words ends at = at
 
 smaller-requires : tie.Need-smaller-requires Inv-loop μ-loop
 smaller-requires c κs = search needs
 
 loop-holds : tie.Need-loop-holds Inv-loop μ-loop
-loop-holds c = swept-start _ _ _ _
+loop-holds c = swept-start _ _ _ _ _
 
 sub-at : tie.Need-sub-at Inv-loop μ-loop
 sub-at c = omega arith
@@ -75,11 +75,11 @@ loop-less c = omega arith
 loop-again : tie.Need-loop-again Inv-loop μ-loop
 loop-again c =
     let swept = c .before .before .before .before .before .before .before .before in
-    swept-more _ _ _ _ _ (swept .before .loop .inv) (swept .loop-test .taken) (c .before .before .before .before .before .before .node-of .ensures) refl (c .before .before .before .decoded .ensures)
+    swept-more _ _ _ _ _ _ (swept .before .loop .inv) (swept .loop-test .taken) (c .before .before .before .before .before .before .node-of .ensures) refl (c .before .before .before .decoded .ensures)
     (c .before .operands .ensures) (c .end-after .ensures)
 
 returns : tie.Need-returns Inv-loop μ-loop
-returns c = rw (c .before .before .smaller .ensures) at (swept-whole _ _ _ _ _ (c .before .loop .inv) (c .loop-test .left))
+returns c = rw (c .before .before .smaller .ensures) at (swept-whole _ _ _ _ _ _ (c .before .loop .inv) (c .loop-test .left))
 
 pub put-nodes-spec : {M : Type 1} → statement M
 put-nodes-spec =

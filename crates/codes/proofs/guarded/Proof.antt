@@ -1,0 +1,17 @@
+-- `guarded` meets its contract, by its two cases.
+use borrow.Author.Tests.{lt-ltb, le-ltb}
+use borrow.Author.Needs.{needs}
+use Rattle.codes.proofs.guarded.Statement.{statement}
+use Rattle.codes.proofs.guarded.Tie as tie
+
+returns : tie.Need-returns
+returns c = simp (lt-ltb _ _ (c .if1 .taken))
+
+add-result : tie.Need-add-result
+add-result c = search needs
+
+returns-2 : tie.Need-returns-2
+returns-2 c = simp (le-ltb _ _ (c .if1 .left))
+
+pub guarded-spec : {M : Type 1} → statement M
+guarded-spec = tie.close (tie.spec returns add-result returns-2)
