@@ -18,7 +18,7 @@ ghost use Rattle.evaluator.specs.{evalWord, branchAt};
 ghost use Rattle.bodies.specs.{Leaf, plainBy, sortAt};
 
 // The number of the outcome of a body, by its word. `env` has the working numbers of the parameter values, and
-// from 4 on the lengths of the traces.
+// at 4 and 5 what places of samples are worked out from.
 pub fn outcome(
     words: &[u64; WORDS],
     traces: &[u8; codes::TRACES_BYTES],

@@ -10,6 +10,7 @@
 --   result-means, cell-working              from a cell to the working number, and back
 --   working-not-zero                        no outcome has the working number of undecided
 use Prim.Native.Nat.{ℕ, zero, suc, _+_, _-_, _<_, _≤_, _%_, _*_, _/_}
+use native.Mathlib.Nat.{add-sub-cancel-left}
 use native.Mathlib.Omega.{arith}
 use mathlib.Core.Path.{_≡_, refl, _∙_}
 use mathlib.Core.Bool.{Bool, true, false, cond}
@@ -30,7 +31,6 @@ use Rattle.semantics.specs.Numbering.{kindSize, digitOf}
 use Rattle.semantics.specs.Cells.{undecidedCode, falseCode, trueCode, headCode, tailCode, suffixCode, codeOf, contentOf, ofKind, outcomeIn}
 use Rattle.semantics.specs.Bodies.{withValue, operated}
 use Rattle.semantics.proofs.Demands.{same-contact, suffix-in, ofDemand, demand-kind}
-use Rattle.semantics.proofs.Cells.{code-held}
 use Rattle.syntax.specs.Kinds.{kindNumber}
 use Rattle.codes.specs.declared.Lengths.{Lengths}
 use Rattle.codes.specs.{guardShift, guardCode, workingOf, mostTraceBytes, sampleCode, ramEnd, guardEnd, endOf, placeOf, emptyCode, headOf, tailOf, nullOf, radixOf, lowestCode, foreign, leastCode, mostCode, decidedCode, guardedCode, resultCode, cellCode}
@@ -80,10 +80,6 @@ workingContent none = undecidedCode
 workingContent (some o) = workingOf o
 
 -- ---- Operations on a list
-
--- the length in the number of a suffix
-suffix-code : (first k : ℕ) → first + k - first ≡ k
-suffix-code first k = omega arith
 
 suffix-least : (c : Contact) (k : ℕ) → suffixCode ≤ workingOf (Suffix c k)
 suffix-least Ram k = omega arith
@@ -164,7 +160,7 @@ suffix-lowest Ram k = refl
 suffix-lowest Guard k = refl
 
 own : (lowest radix k : ℕ) → k < radix → foreign lowest radix (lowest + k) ≡ false
-own lowest radix k h = simp (le-ltb (lowest + k) lowest (omega arith), suffix-code lowest k, lt-leb radix k h)
+own lowest radix k h = simp (le-ltb (lowest + k) lowest (omega arith), add-sub-cancel-left lowest k, lt-leb radix k h)
 
 module _ (t : Traces) where
   -- the number of a value is as far above the lowest of its kind as its digit says
@@ -174,7 +170,7 @@ module _ (t : Traces) where
   value-digit truth (suffix c k) h = absurd h
   value-digit (list c) (bit b) h = absurd h
   value-digit (list c) (suffix c′ k) h =
-      rw (suffix-lowest c′ k, suffix-in t c c′ k h .0) (suffix-code (lowestCode (kindNumber (list c′))) k)
+      rw (suffix-lowest c′ k, suffix-in t c c′ k h .0) (add-sub-cancel-left (lowestCode (kindNumber (list c′))) k)
 
   pub value-own : (κ : Kind) (v : Value) → T (inKind t κ v) → foreign (lowestCode (kindNumber κ)) (kindSize t κ) (workingOf (given v)) ≡ false
   value-own truth (bit true) h = refl

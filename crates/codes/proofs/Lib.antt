@@ -1,1 +1,2 @@
 pub mod CodeMeaning
+pub mod Bounds

@@ -1,6 +1,6 @@
 -- A mirror of the code: outcomes as their numbers. No reader need believe it: proofs/ shows that it comes to what the
 -- rules say.
-use Prim.Native.Nat.{ℕ, _+_, _-_, _/_, _%_, _≤_}
+use Prim.Native.Nat.{ℕ, _+_, _-_, _*_, _/_, _%_, _≤_}
 use mathlib.Core.Bool.{Bool, true, cond}
 use mathlib.Core.List.{List}
 use lib.Dec.{ltb, leb, eqb}
@@ -37,17 +37,17 @@ workingOf (Failed x) = codeOf (Failed x)
 abbrev pub mostTraceBytes : ℕ
 mostTraceBytes = 512
 
--- sample i of both traces; the guard's come after 8 × 512 places of the ram's
+-- the sample at place i of both traces: the ram's begin at 0, the guard's after the most that the ram trace takes
 abbrev pub sampleCode : List ℕ → ℕ → ℕ
-sampleCode traces i = cond (bitOf (i % 8) (getD traces (i / 8 % 1024) 0)) trueCode falseCode
+sampleCode traces i = cond (bitOf (i % 8) (getD traces (i / 8 % (2 * mostTraceBytes)) 0)) trueCode falseCode
 
 -- An array of values has at 4 and 5 a number for each contact, from which the working number of a suffix is subtracted for the
--- place of its oldest sample: the length of the contact's trace, and one of these.
+-- place of its oldest sample: the sum of the trace's length, the number of its empty list and the place where its samples begin.
 abbrev pub ramEnd : ℕ
-ramEnd = 5
+ramEnd = suffixCode
 
 abbrev pub guardEnd : ℕ
-guardEnd = 12293
+guardEnd = guardCode + 8 * mostTraceBytes
 
 abbrev pub endOf : List ℕ → ℕ → ℕ
 endOf env c = getD env (4 + c / guardShift % 2) 0
@@ -60,6 +60,7 @@ placeOf end c = (end + 65536 - c) % 65536
 abbrev pub emptyCode : ℕ → Bool
 emptyCode c = eqb (c % guardShift) suffixCode
 
+-- undecided and errors go through
 abbrev pub headOf : List ℕ → List ℕ → ℕ → ℕ
 headOf traces env c =
     cond (ltb c suffixCode) c

@@ -27,10 +27,11 @@ pub const TRACE_BYTES: usize = 512;
 
 pub const TRACES_BYTES: usize = 1024;
 
-// What the length of each trace is added to for the numbers at 4 and 5 of an array of values.
+// What the length of each trace is added to for the numbers at 4 and 5 of an array of values: the number of the empty list, and
+// where the samples begin.
 pub const RAM_END: u16 = SUFFIX;
 
-pub const GUARD_END: u16 = 12293;
+pub const GUARD_END: u16 = GUARD_SUFFIX + 8 * 512;
 
 // The lengths of both traces.
 pub struct Lengths {
@@ -62,7 +63,8 @@ fn place(end: u16, operand: u16) -> u16
     ((end as u32 + 65536 - operand as u32) % 65536) as u16
 }
 
-// Sample i of both traces as a number. It is worked out without a branch, which a mixed trace would mislead.
+// The sample at place i of both traces as a number: the guard's begin at 8 * 512. It is worked out without a branch, which a
+// mixed trace would mislead.
 fn sample(traces: &[u8; TRACES_BYTES], i: u16) -> u16
     ensures { λ r. ⌜ r ≡ sampleCode (now (traces .entry)) i ⌝ }
 {

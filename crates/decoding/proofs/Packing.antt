@@ -3,22 +3,14 @@
 --   first-packed, second-packed, third-packed             the fields of a node
 --   place-0 to place-3                                    its places, as a call goes through them
 --   constant-packed                                       the number of a constant
---   least-small, lowest-small                             the numbers of a kind fit into their bits
---   short-lengths                                         lengths of traces within the limit
 --   first-in, held-in                                     a function's first cell, and what a cell of it holds
 --   values-in, lowest-in                                  a parameter's values
-use Prim.Native.Nat.{ℕ, _/_, _%_, _<_, _≤_}
+use Prim.Native.Nat.{ℕ, _/_, _%_, _<_}
 use native.Mathlib.Omega.{arith}
 use mathlib.Core.Path.{_≡_}
-use mathlib.Core.Bool.{Bool, true, false, cond}
-use lib.Dec.{eqb}
-use Rattle.trace.specs.{mostSamples}
-use Rattle.semantics.specs.declared.Contact.the-variants.{Ram, Guard}
-use Rattle.semantics.specs.Language.{Traces}
-use Rattle.syntax.specs.Kinds.{truthKind, guardKind}
 use Rattle.codes.specs.declared.Lengths.{Lengths}
-use Rattle.codes.specs.{Short, lengthOf, leastCode, mostCode, decidedCode, radixOf, lowestCode}
-use Rattle.codes.proofs.CodeMeaning.{ShortTraces, LengthsOf}
+use Rattle.codes.specs.{Short, leastCode, mostCode, decidedCode, radixOf, lowestCode}
+use Rattle.codes.proofs.Bounds.{least-small, lowest-small, most-small, radix-small}
 use Rattle.decoding.specs.Words.{packed, sortOf, paramOf, calleeOf, countOf, placesOf, constantOf, firstPlace, secondPlace, thirdPlace, functionWord, firstIn, leastIn, mostIn, heldIn, kindWord, valuesIn, lowestIn}
 use Rattle.decoding.specs.Decoding.{constantBy}
 
@@ -75,34 +67,6 @@ module _ (sort small first second third fourth : ℕ) where
 pub constant-packed : (c : ℕ) → c < 65536 → constantOf (constantBy c) ≡ c
 unfolding packed
 constant-packed c h = omega arith
-
--- ---- The numbers of a kind
-
--- what holds of both answers of a test
-both : (P : ℕ → Type 0) (b : Bool) {x y : ℕ} → P x → P y → P (cond b x y)
-both P true p q = p
-both P false p q = q
-
-pub least-small : (kind : ℕ) → leastCode kind < 65536
-least-small kind = both (λ x. x < 65536) (eqb kind truthKind) (omega arith) (omega arith)
-
-pub lowest-small : (kind : ℕ) → lowestCode kind < 65536
-lowest-small kind =
-    both (λ x. x < 65536) (eqb kind truthKind) (omega arith) (both (λ x. x < 65536) (eqb kind guardKind) (omega arith) (omega arith))
-
--- the lengths of traces that are not too long
-pub short-lengths : {t : Traces} {n : Lengths} → ShortTraces t → LengthsOf t n → Short n
-short-lengths short ls = (rw (ls .ram) (short Ram), rw (ls .guard) (short Guard))
-
-module _ (kind : ℕ) (n : Lengths) (short : Short n) where
-  length-small : lengthOf kind n ≤ mostSamples
-  length-small = both (λ x. x ≤ mostSamples) (eqb kind guardKind) (short .1) (short .0)
-
-  most-small : mostCode kind n < 65536
-  most-small = both (λ x. x < 65536) (eqb kind truthKind) (omega arith) (omega (arith, length-small))
-
-  radix-small : radixOf kind n < 65536
-  radix-small = both (λ x. x < 65536) (eqb kind truthKind) (omega arith) (omega (arith, length-small))
 
 -- ---- Functions
 

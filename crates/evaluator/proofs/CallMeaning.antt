@@ -27,8 +27,9 @@ use Rattle.syntax.specs.Kinds.{kindNumber}
 use Rattle.codes.specs.declared.Lengths.{Lengths}
 use Rattle.codes.specs.{workingOf, lowestCode, foreign}
 use Rattle.codes.proofs.CodeMeaning.{ShortTraces, LengthsOf, OfDemand, workingContent, radix-means, value-own, value-digit, none-foreign, failed-foreign}
+use Rattle.codes.proofs.Bounds.{short-lengths}
 use Rattle.decoding.specs.Words.{firstIn, valuesIn, lowestIn, kindWord}
-use Rattle.decoding.proofs.Packing.{short-lengths, values-in, lowest-in}
+use Rattle.decoding.proofs.Packing.{values-in, lowest-in}
 use Rattle.evaluator.specs.{bound, functionAt, paramAt, nextIndex, lookupBy, argsIn}
 use Rattle.evaluator.proofs.Sets.{Sets}
 use Rattle.evaluator.proofs.CellMeaning.{first-cell, first-within, held-means, first-is}

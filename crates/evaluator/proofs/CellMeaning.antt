@@ -18,8 +18,9 @@ use Rattle.semantics.proofs.Numbering.{number-values, values-in, config-cell}
 use Rattle.syntax.specs.Kinds.{kindNumber}
 use Rattle.codes.specs.declared.Lengths.{Lengths}
 use Rattle.codes.proofs.CodeMeaning.{decided-means}
+use Rattle.codes.proofs.Bounds.{short-lengths}
 use Rattle.decoding.specs.Words.{firstIn, heldIn}
-use Rattle.decoding.proofs.Packing.{short-lengths, first-in, held-in}
+use Rattle.decoding.proofs.Packing.{first-in, held-in}
 use Rattle.evaluator.specs.{functionAt}
 use Rattle.evaluator.proofs.Sets.{firstCell, Sets}
 

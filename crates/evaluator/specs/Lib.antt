@@ -65,6 +65,10 @@ callBy words table eval w count = argsIn words table eval (calleeOf w) count 0 0
 abbrev pub paramIn : List ℕ → ℕ → ℕ
 paramIn env w = getD env (paramOf w) 0
 
+-- the working number of what a call found, by the sort of its word
+abbrev pub foundBy : ℕ → ℕ → ℕ
+foundBy sort number = cond (eqb sort callGuardSort) (guardedCode number) number
+
 -- a word of a sort; eval gives the outcome of the word at a place
 abbrev pub sortBy : List ℕ → List ℕ → List ℕ → List ℕ → (ℕ → ℕ) → ℕ → ℕ → ℕ
 sortBy words traces table env eval w sort =

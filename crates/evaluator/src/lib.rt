@@ -9,7 +9,7 @@ ghost use mathlib.Core.Path.{_≡_};
 ghost use Prim.Native.Nat.{_%_, _<_};
 ghost use lib.ListN.{getD};
 ghost use Rattle.decoding.specs.Words.{paramOf};
-ghost use Rattle.evaluator.specs.{digitBound, mostIndex, nextIndex, Digit, lookupBy, branchAt, callAt, callOneAt, evalWord};
+ghost use Rattle.evaluator.specs.{digitBound, mostIndex, nextIndex, Digit, lookupBy, foundBy, branchAt, callAt, callOneAt, evalWord};
 
 // The number of the outcome of a node. The table is a reference to its slice: it goes from call to call as one
 // word. The sorts stand here by number, all sixteen, so that no range is tested.
@@ -69,9 +69,8 @@ pub fn eval(
             node,
             codes::head(traces, env, param(env, node)),
         ),
-        12 => call(words, traces, table, env, left, node),
+        12 | 14 => found(sort, call(words, traces, table, env, left, node)),
         13 => call_one(words, traces, table, env, left, node),
-        14 => codes::guarded(call(words, traces, table, env, left, node)),
         15 => codes::UNDECIDED,
         _ => codes::UNDECIDED,
     }
@@ -175,6 +174,17 @@ fn call_one(
         return value;
     }
     lookup(words[place], table, digit)
+}
+
+// The working number of what a call found, by the sort of its node.
+fn found(sort: u64, number: u16) -> u16
+    ensures { λ r. ⌜ r ≡ foundBy sort number ⌝ }
+{
+    if sort == nodes::CALL_GUARD {
+        codes::guarded(number)
+    } else {
+        number
+    }
 }
 
 // The value of the parameter that a node names.

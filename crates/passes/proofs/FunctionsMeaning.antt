@@ -5,7 +5,7 @@
 --   radix-in, size-means                      how many values a kind has, how many configurations a function has
 --   headsFor                                  what the headers of a program say
 --   total-means                               the cells of all
---   first-means, kinds-mean, count-means      the first cell, the signature, the count of each function
+--   first-means, signature-means, count-means      the first cell, the signature, the count of each function
 --   sizes-mean                                how many configurations each has
 --   main-cell-means                           main's cell on the whole traces
 use mathlib.Core.Path.{_≡_, refl, sym, ap, _∙_}
@@ -36,7 +36,7 @@ use Rattle.rule.proofs.WalkMeaning.{kind-number, at-most-four, kind-there}
 use Rattle.codes.specs.declared.Lengths.{Lengths}
 use Rattle.codes.specs.{Short, radixOf}
 use Rattle.codes.proofs.CodeMeaning.{LengthsOf, radix-means}
-use Rattle.passes.specs.Mirror.{sizeFrom, firstOf, kindsOf, countOf, sizeOf, mainCellOf, Heads, heads, signatureAt, totalBefore, functionsUpto}
+use Rattle.passes.specs.Mirror.{sizeFrom, firstOf, signatureIn, countOf, sizeOf, mainCellOf, Heads, headsOf, signatureAt, totalBefore, functionsUpto}
 use Rattle.evaluator.proofs.Sets.{firstCell}
 use Rattle.passes.proofs.SetupLoops.{shortened-short}
 
@@ -114,7 +114,7 @@ cells-more t (x ∷ P) zero f e = let same : f ≡ x = cc in rw same (omega arit
 cells-more t (x ∷ P) (suc g) f e = omega (arith, cells-more t P g f e)
 
 abbrev pub headsFor : Sort → Program → Heads
-headsFor s P = heads (outlineOf s P .kinds) (outlineOf s P .guards) (outlineOf s P .params)
+headsFor s P = headsOf (outlineOf s P)
 
 module _ (s : Sort) (P : Program) (t : Traces) (n : Lengths) (ls : LengthsOf t n)
     (small : (g : ℕ) (f : Function) → getElem? P g ≡ some f → length (f .params) ≤ mostParams) where
@@ -146,7 +146,7 @@ module _ (H : Heads) (n : Lengths) where
   -- what the array has of function g
   record Entry (functions : List ℕ) (g : ℕ) : Type 0 where
     first : firstOf functions g ≡ totalBefore H n g
-    kind : kindsOf functions g ≡ signatureAt H g
+    signature : signatureIn functions g ≡ signatureAt H g
     count : getD functions (64 + g) 0 ≡ getD (H .params) g 0
 
   -- writing the entry of function m
@@ -165,7 +165,7 @@ module _ (H : Heads) (n : Lengths) where
             getD-set-other l₂ (64 + m) m _ 0 (λ e. omega arith)
             ∙ getD-set-other l₁ (32 + m) m _ 0 (λ e. omega arith)
             ∙ getD-set-same l m _ 0 (omega arith);
-        kind = getD-set-other l₂ (64 + m) (32 + m) _ 0 (λ e. omega arith) ∙ getD-set-same l₁ (32 + m) _ 0 (omega arith);
+        signature = getD-set-other l₂ (64 + m) (32 + m) _ 0 (λ e. omega arith) ∙ getD-set-same l₁ (32 + m) _ 0 (omega arith);
         count = getD-set-same l₂ (64 + m) _ 0 (omega arith);
       }
 
@@ -180,7 +180,7 @@ module _ (H : Heads) (n : Lengths) where
   entry-other m g l h b u =
       record {
         first = written-other m l g (λ e. omega arith) (λ e. omega arith) (λ e. omega arith) ∙ u .first;
-        kind = written-other m l (32 + g) (λ e. omega arith) (λ e. omega arith) (λ e. omega arith) ∙ u .kind;
+        signature = written-other m l (32 + g) (λ e. omega arith) (λ e. omega arith) (λ e. omega arith) ∙ u .signature;
         count = written-other m l (64 + g) (λ e. omega arith) (λ e. omega arith) (λ e. omega arith) ∙ u .count;
       }
 
@@ -211,8 +211,8 @@ module _ {bytes : List ℕ} {s : Sort} {P : Program} (a : Accepted bytes s P) (t
     pub first-means : firstOf functions g ≡ firstCell t P g
     first-means = entry-of .first ∙ total-before s P t n ls small g (omega (arith, place-below P g f e))
 
-    pub kinds-mean : kindsOf functions g ≡ signatureFor (f .params) (f .result)
-    kinds-mean = entry-of .kind ∙ rw (kinds-at s P g f e, guards-at s P g f e)
+    pub signature-means : signatureIn functions g ≡ signatureFor (f .params) (f .result)
+    signature-means = entry-of .signature ∙ rw (kinds-at s P g f e, guards-at s P g f e)
 
     pub count-means : countOf functions g ≡ length (f .params)
     count-means =
@@ -223,7 +223,7 @@ module _ {bytes : List ℕ} {s : Sort} {P : Program} (a : Accepted bytes s P) (t
         ∙ at-most-four (length (f .params)) few
 
     pub sizes-mean : sizeOf functions n g ≡ size t (f .params)
-    sizes-mean = rw (kinds-mean, count-means) (size-means ls (f .params) (f .result) (small g f e))
+    sizes-mean = rw (signature-means, count-means) (size-means ls (f .params) (f .result) (small g f e))
 
   pub main-cell-means : Short n → mainCellOf functions n ≡ mainCell t P
   unfolding mainCellOf

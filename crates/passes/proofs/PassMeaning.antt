@@ -33,7 +33,7 @@ use Rattle.rule.proofs.FunctionBytes.{expr-bytes}
 use Rattle.rule.proofs.OutlineMeaning.{there}
 use Rattle.codes.specs.declared.Lengths.{Lengths}
 use Rattle.codes.proofs.CodeMeaning.{ShortTraces, workingContent, cell-working, working-not-zero}
-use Rattle.decoding.proofs.Packing.{short-lengths}
+use Rattle.codes.proofs.Bounds.{short-lengths}
 use Rattle.passes.specs.Mirror.{Setup, firstOf, bodyAt, sizeOf, envAt, filledAt, putIn, storedAt, visitAt, oneUnless, visitsFrom}
 use Rattle.passes.specs.Mirror.{storesFrom, Ready, passVisits, passCounts}
 use Rattle.evaluator.proofs.Sets.{firstCell, EnvOf, Sets}

@@ -10,7 +10,7 @@
 --   Covering                                 some functions have been visited, or passed over
 --   cleared-whole, cleared-within            the first cells made undecided
 use mathlib.Core.Path.{_≡_, refl, sym, ap, _∙_}
-use mathlib.Core.Bool.{Bool, true, false, _&&_, cond}
+use mathlib.Core.Bool.{Bool, true, false, cond}
 use mathlib.Core.List.{List, _++_}
 use Prim.Native.Nat.{ℕ, zero, suc, _+_, _-_, _*_, _<_, _≤_, min}
 use native.Mathlib.Nat.{add-zero, add-suc, zero-add, min-eq-left, min-eq-right}
@@ -22,6 +22,7 @@ use lib.ListN.{length, getD, set, drop, replicate, length-set, drop-of-length-le
 use borrow.Author.Tests.{ltb-true, le-ltb, leb-true, leb-false, lt-ltb, le-leb, lt-leb, eq-eqb, ne-eqb}
 use Rattle.trace.specs.{mostSamples}
 use Rattle.syntax.specs.Limits.{mostFunctions, mostDepth}
+use Rattle.rule.proofs.Tests.{both}
 use Rattle.codes.specs.declared.Lengths.{Lengths}
 use Rattle.codes.specs.{Short, cellCode}
 use Rattle.decoding.specs.Words.{heldIn}
@@ -169,10 +170,6 @@ visited-row {S} {n} {g} {body} {T₀} {base = base} width u v s = record {
 }
 
 -- ---- Cells within the table
-
-both : (a b : Bool) → (a && b) ≡ true → (a ≡ true) × (b ≡ true)
-both true b e = (refl, e)
-both false b e = let z : _≡_ {A = ℕ} 0 1 = cc in absurd (omega arith)
 
 pub short-true : {n : Lengths} → Short n → short n ≡ true
 short-true {n} h = simp (le-leb (n .ram) mostSamples (h .0), le-leb (n .guard) mostSamples (h .1))

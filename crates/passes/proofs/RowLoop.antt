@@ -12,13 +12,13 @@ use native.Mathlib.Omega.{arith}
 use lib.ListN.{length, set}
 use Rattle.syntax.specs.Limits.{mostParams}
 use Rattle.codes.specs.declared.Lengths.{Lengths}
-use Rattle.passes.specs.Mirror.{Setup, kindsOf, countOf, sizeFrom, sizeOf, valuesInto, blank, envAt, rowWidth, stepped, Ready, RowReady, SameOthers, visitsFrom, storesFrom}
+use Rattle.passes.specs.Mirror.{Setup, signatureIn, countOf, sizeFrom, sizeOf, valuesInto, blank, envAt, rowWidth, stepped, Ready, RowReady, SameOthers, visitsFrom, storesFrom}
 use Rattle.passes.proofs.Rows.{size-rows, row-values, step-others}
 use Rattle.passes.proofs.PassWays.{Visited, visited-start, visited-length, visited-row, visited-end}
 
 module _ (S : Setup) (n : Lengths) (g body : ℕ) (T₀ : List ℕ) where
-  abbrev kinds : ℕ
-  kinds = kindsOf (S .functions) g
+  abbrev signature : ℕ
+  signature = signatureIn (S .functions) g
 
   abbrev count : ℕ
   count = countOf (S .functions) g
@@ -27,19 +27,19 @@ module _ (S : Setup) (n : Lengths) (g body : ℕ) (T₀ : List ℕ) where
   others = count - 1
 
   abbrev width : ℕ
-  width = rowWidth kinds n count
+  width = rowWidth signature n count
 
   abbrev rows : ℕ
-  rows = sizeFrom kinds n 0 others
+  rows = sizeFrom signature n 0 others
 
   -- r rows have been visited, up to configuration `base`; env has the values of row r, but for the last parameter's
   pub record Stepping (T env : List ℕ) (stored base r : ℕ) : Type 0 where
     pub visited : Visited S n g body 0 T₀ T stored base
     pub place : base ≡ r * width
     pub few : r ≤ rows
-    pub values : r < rows → SameOthers others (valuesInto kinds n others r (blank n)) env
+    pub values : r < rows → SameOthers others (valuesInto signature n others r (blank n)) env
 
-  pub stepping-start : {env : List ℕ} → env ≡ valuesInto kinds n others 0 (blank n) → Stepping T₀ env 0 0 0
+  pub stepping-start : {env : List ℕ} → env ≡ valuesInto signature n others 0 (blank n) → Stepping T₀ env 0 0 0
   stepping-start e = record {
     visited = visited-start S n g body 0 T₀;
     place = omega arith;
@@ -48,7 +48,7 @@ module _ (S : Setup) (n : Lengths) (g body : ℕ) (T₀ : List ℕ) where
   }
 
   sizes : sizeOf (S .functions) n g ≡ rows * width
-  sizes = size-rows kinds n count
+  sizes = size-rows signature n count
 
   module _ (u : Ready (S .functions) n g (length T₀)) (narrow : count ≤ mostParams) {T env : List ℕ} {stored base r : ℕ}
       (p : Stepping T env stored base r) where
@@ -62,17 +62,17 @@ module _ (S : Setup) (n : Lengths) (g body : ℕ) (T₀ : List ℕ) where
       inside = stepping-inside h;
       values = λ d l.
           p .values h _
-          ∙ row-values kinds n (u .samples) count r d (blank n) refl h l
+          ∙ row-values signature n (u .samples) count r d (blank n) refl h l
           ∙ ap (λ (b : ℕ). envAt (S .functions) n g (b + d)) (sym (p .place));
     }
 
     pub stepping-more : r < rows → (env₁ : List ℕ) {T′ env′ : List ℕ} {more : ℕ} → T′ ≡ visitsFrom S n g body base width T → more ≡ storesFrom S n g body base width T
-        → SameOthers others env env₁ → env′ ≡ stepped kinds n others env₁ → Stepping T′ env′ (stored + more) (base + width) (r + 1)
+        → SameOthers others env env₁ → env′ ≡ stepped signature n others env₁ → Stepping T′ env′ (stored + more) (base + width) (r + 1)
     stepping-more h env₁ v s o e = record {
       visited = visited-row width (p .visited) v s;
       place = omega (arith, p .place);
       few = omega arith;
-      values = λ l. step-others kinds n (u .samples) others r (blank n) env₁ (omega arith) l (λ w. o w ∙ p .values h w) e;
+      values = λ l. step-others signature n (u .samples) others r (blank n) env₁ (omega arith) l (λ w. o w ∙ p .values h w) e;
     }
 
     pub stepping-end : rows ≤ r → (T ≡ visitsFrom S n g body 0 (sizeOf (S .functions) n g) T₀)

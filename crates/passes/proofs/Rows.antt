@@ -26,75 +26,75 @@ use Rattle.syntax.specs.Kinds.{kindIn}
 use Rattle.codes.specs.declared.Lengths.{Lengths}
 use Rattle.codes.specs.{Short, guardCode, lowestCode, radixOf}
 use Rattle.passes.specs.Mirror.{mostValues, mostConfigurations, valueNumber, sizeFrom, valuesInto, rowWidth, rowLowest, stepped, SameOthers}
-use Rattle.passes.proofs.SetupLoops.{radix-bound, radix-pos, lowest-small}
+use Rattle.codes.proofs.Bounds.{radix-small, radix-pos, lowest-small}
 
 -- the number of a value that its kind has
 small-number : (kind : ℕ) (n : Lengths) (d : ℕ) → Short n → d < radixOf kind n → valueNumber kind d ≡ lowestCode kind + d
-small-number kind n d h l = omega (arith, radix-bound kind n h, lowest-small kind)
+small-number kind n d h l = omega (arith, radix-small kind n h, lowest-small kind)
 
-module _ (kinds : ℕ) where
-  pub lowest-some : (count : ℕ) → (count ≡ 0 → ⊥) → {kind r : ℕ} → kind ≡ kindIn kinds (count - 1) → r ≡ lowestCode kind → r ≡ rowLowest kinds count
+module _ (signature : ℕ) where
+  pub lowest-some : (count : ℕ) → (count ≡ 0 → ⊥) → {kind r : ℕ} → kind ≡ kindIn signature (count - 1) → r ≡ lowestCode kind → r ≡ rowLowest signature count
   lowest-some zero z e q = absurd (z refl)
   lowest-some (suc c) z e q = q ∙ rw (e, sub-one)
 
-  pub lowest-bound : (count : ℕ) → rowLowest kinds count ≤ guardCode
+  pub lowest-bound : (count : ℕ) → rowLowest signature count ≤ guardCode
   lowest-bound zero = omega arith
-  lowest-bound (suc c) = lowest-small (kindIn kinds c)
+  lowest-bound (suc c) = lowest-small (kindIn signature c)
 
-module _ (kinds : ℕ) (n : Lengths) where
+module _ (signature : ℕ) (n : Lengths) where
   abbrev radix : ℕ → ℕ
-  radix i = radixOf (kindIn kinds i) n
+  radix i = radixOf (kindIn signature i) n
 
   abbrev lowest : ℕ → ℕ
-  lowest i = lowestCode (kindIn kinds i)
+  lowest i = lowestCode (kindIn signature i)
 
   abbrev numberAt : ℕ → ℕ → ℕ
-  numberAt i d = valueNumber (kindIn kinds i) d
+  numberAt i d = valueNumber (kindIn signature i) d
 
   -- ---- How many there are
 
-  size-snoc : (i left : ℕ) → sizeFrom kinds n i (suc left) ≡ sizeFrom kinds n i left * radix (i + left)
+  size-snoc : (i left : ℕ) → sizeFrom signature n i (suc left) ≡ sizeFrom signature n i left * radix (i + left)
   unfolding sizeFrom
   size-snoc i zero = let z : i + 0 ≡ i = omega arith in rw z (omega arith)
   size-snoc i (suc left) =
       let z : i + 1 + left ≡ i + suc left = omega arith in
       ap (λ (s : ℕ). radix i * s) (size-snoc (i + 1) left)
-      ∙ sym (mul-assoc (radix i) (sizeFrom kinds n (i + 1) left) (radix (i + 1 + left)))
-      ∙ ap (λ (j : ℕ). radix i * sizeFrom kinds n (i + 1) left * radix j) z
+      ∙ sym (mul-assoc (radix i) (sizeFrom signature n (i + 1) left) (radix (i + 1 + left)))
+      ∙ ap (λ (j : ℕ). radix i * sizeFrom signature n (i + 1) left * radix j) z
 
-  pub size-rows : (count : ℕ) → sizeFrom kinds n 0 count ≡ sizeFrom kinds n 0 (count - 1) * rowWidth kinds n count
+  pub size-rows : (count : ℕ) → sizeFrom signature n 0 count ≡ sizeFrom signature n 0 (count - 1) * rowWidth signature n count
   unfolding sizeFrom
   size-rows zero = refl
-  size-rows (suc c) = rw sub-one (size-snoc 0 c ∙ ap (λ (j : ℕ). sizeFrom kinds n 0 c * radix j) (zero-add c))
+  size-rows (suc c) = rw sub-one (size-snoc 0 c ∙ ap (λ (j : ℕ). sizeFrom signature n 0 c * radix j) (zero-add c))
 
-  size-power : Short n → (i c : ℕ) → sizeFrom kinds n i c ≤ mostValues ^ c
+  size-power : Short n → (i c : ℕ) → sizeFrom signature n i c ≤ mostValues ^ c
   unfolding sizeFrom
   size-power few i zero = omega arith
-  size-power few i (suc c) = rw pow-succ' (mul-le-mul (radix-bound (kindIn kinds i) n few) (size-power few (i + 1) c))
+  size-power few i (suc c) = rw pow-succ' (mul-le-mul (radix-small (kindIn signature i) n few) (size-power few (i + 1) c))
 
-  pub size-most : Short n → (c : ℕ) → c ≤ mostParams → sizeFrom kinds n 0 c ≤ mostConfigurations
+  pub size-most : Short n → (c : ℕ) → c ≤ mostParams → sizeFrom signature n 0 c ≤ mostConfigurations
   size-most few c h = omega (arith, size-power few 0 c, pow-le-pow-right {n = mostValues} (omega arith) h)
 
   -- ---- Places past the parameters
 
-  pub values-above : (c x : ℕ) (env : List ℕ) (j : ℕ) → c ≤ j → getD (valuesInto kinds n c x env) j 0 ≡ getD env j 0
+  pub values-above : (c x : ℕ) (env : List ℕ) (j : ℕ) → c ≤ j → getD (valuesInto signature n c x env) j 0 ≡ getD env j 0
   unfolding valuesInto
   values-above zero x env j h = refl
   values-above (suc zero) x env j h = getD-set-other env 0 j _ 0 (λ e. omega arith)
   values-above (suc (suc c)) x env j h = values-above (suc c) _ _ j (omega arith) ∙ getD-set-other env (suc c) j _ 0 (λ e. omega arith)
 
-  values-other : (c x : ℕ) (env : List ℕ) (j v : ℕ) → c ≤ j → valuesInto kinds n c x (set env j v) ≡ set (valuesInto kinds n c x env) j v
+  values-other : (c x : ℕ) (env : List ℕ) (j v : ℕ) → c ≤ j → valuesInto signature n c x (set env j v) ≡ set (valuesInto signature n c x env) j v
   unfolding valuesInto
   values-other zero x env j v h = refl
   values-other (suc zero) x env j v h = set-comm env j 0 v _ (λ e. omega arith)
   values-other (suc (suc c)) x env j v h =
-      ap (valuesInto kinds n (suc c) (x / radix (suc c))) (set-comm env j (suc c) v (numberAt (suc c) (x % radix (suc c))) (λ e. omega arith))
+      ap (valuesInto signature n (suc c) (x / radix (suc c))) (set-comm env j (suc c) v (numberAt (suc c) (x % radix (suc c))) (λ e. omega arith))
       ∙ values-other (suc c) (x / radix (suc c)) (set env (suc c) (numberAt (suc c) (x % radix (suc c)))) j v (omega arith)
 
   -- ---- The values of a row
 
-  last-apart : (c r d : ℕ) (env : List ℕ) → r < sizeFrom kinds n 0 c → d < radix c
-      → valuesInto kinds n (suc c) (r * radix c + d) env ≡ set (valuesInto kinds n c r env) c (numberAt c d)
+  last-apart : (c r d : ℕ) (env : List ℕ) → r < sizeFrom signature n 0 c → d < radix c
+      → valuesInto signature n (suc c) (r * radix c + d) env ≡ set (valuesInto signature n c r env) c (numberAt c d)
   unfolding valuesInto sizeFrom
   last-apart zero r d env h l =
       let none : r ≡ 0 = omega arith in
@@ -102,99 +102,99 @@ module _ (kinds : ℕ) (n : Lengths) where
       ap (λ (x : ℕ). set env 0 (numberAt 0 x)) same
   last-apart (suc c) r d env h l =
       let K = radix (suc c) in
-      ap (λ (q : ℕ). valuesInto kinds n (suc c) q (set env (suc c) (numberAt (suc c) ((r * K + d) % K)))) (digits-div r l)
-      ∙ ap (λ (m : ℕ). valuesInto kinds n (suc c) r (set env (suc c) (numberAt (suc c) m))) (digits-mod r l)
+      ap (λ (q : ℕ). valuesInto signature n (suc c) q (set env (suc c) (numberAt (suc c) ((r * K + d) % K)))) (digits-div r l)
+      ∙ ap (λ (m : ℕ). valuesInto signature n (suc c) r (set env (suc c) (numberAt (suc c) m))) (digits-mod r l)
       ∙ values-other (suc c) r env (suc c) (numberAt (suc c) d) (omega arith)
 
-  pub row-values : Short n → (count r d : ℕ) (env : List ℕ) → getD env 0 0 ≡ 0 → r < sizeFrom kinds n 0 (count - 1) → d < rowWidth kinds n count
-      → set (valuesInto kinds n (count - 1) r env) (count - 1) (rowLowest kinds count + d) ≡ valuesInto kinds n count (r * rowWidth kinds n count + d) env
+  pub row-values : Short n → (count r d : ℕ) (env : List ℕ) → getD env 0 0 ≡ 0 → r < sizeFrom signature n 0 (count - 1) → d < rowWidth signature n count
+      → set (valuesInto signature n (count - 1) r env) (count - 1) (rowLowest signature count + d) ≡ valuesInto signature n count (r * rowWidth signature n count + d) env
   unfolding valuesInto
   row-values few zero r d env z h l =
       let none : 0 + d ≡ getD env 0 0 = omega (arith, z) in
       ap (set env 0) none ∙ set-getD env 0 0
   row-values few (suc c) r d env z h l =
-      let back : r < sizeFrom kinds n 0 c = rw sub-one at h in
+      let back : r < sizeFrom signature n 0 c = rw sub-one at h in
       rw sub-one
-      (ap (set (valuesInto kinds n c r env) c) (sym (small-number (kindIn kinds c) n d few l)) ∙ sym (last-apart c r d env back l))
+      (ap (set (valuesInto signature n c r env) c) (sym (small-number (kindIn signature c) n d few l)) ∙ sym (last-apart c r d env back l))
 
   -- ---- As the code works them out
 
-  pub width-some : (count : ℕ) → (count ≡ 0 → ⊥) → {kind r : ℕ} → kind ≡ kindIn kinds (count - 1) → r ≡ radixOf kind n → r ≡ rowWidth kinds n count
+  pub width-some : (count : ℕ) → (count ≡ 0 → ⊥) → {kind r : ℕ} → kind ≡ kindIn signature (count - 1) → r ≡ radixOf kind n → r ≡ rowWidth signature n count
   width-some zero z e q = absurd (z refl)
   width-some (suc c) z e q = q ∙ rw (e, sub-one)
 
-  pub width-bound : Short n → (count : ℕ) → rowWidth kinds n count ≤ mostValues
+  pub width-bound : Short n → (count : ℕ) → rowWidth signature n count ≤ mostValues
   width-bound few zero = omega arith
-  width-bound few (suc c) = radix-bound (kindIn kinds c) n few
+  width-bound few (suc c) = radix-small (kindIn signature c) n few
 
-  module _ (i : ℕ) (env : List ℕ) (some : 0 < i) {kind : ℕ} {low K next : ℕ} (b : kind ≡ kindIn kinds (i - 1)) (l : low ≡ lowestCode kind)
+  module _ (i : ℕ) (env : List ℕ) (some : 0 < i) {kind : ℕ} {low K next : ℕ} (b : kind ≡ kindIn signature (i - 1)) (l : low ≡ lowestCode kind)
       (k : K ≡ radixOf kind n) (x : next ≡ getD env (i - 1) 0 + 1) where
-    pub step-stops : next < low + K → {all : List ℕ} → all ≡ stepped kinds n i env → set env (i - 1) next ≡ all
+    pub step-stops : next < low + K → {all : List ℕ} → all ≡ stepped signature n i env → set env (i - 1) next ≡ all
     unfolding stepped
     step-stops h q = go i some b x q
       where
-        go : (i : ℕ) → 0 < i → kind ≡ kindIn kinds (i - 1) → next ≡ getD env (i - 1) 0 + 1 → {all : List ℕ} → all ≡ stepped kinds n i env
+        go : (i : ℕ) → 0 < i → kind ≡ kindIn signature (i - 1) → next ≡ getD env (i - 1) 0 + 1 → {all : List ℕ} → all ≡ stepped signature n i env
             → set env (i - 1) next ≡ all
         go zero z b x q = absurd (omega arith)
         go (suc i) z b x q =
             let same : i ≡ suc i - 1 = omega arith in
-            let test : getD env i 0 + 1 < lowestCode (kindIn kinds i) + radixOf (kindIn kinds i) n = rw (same, ← b, ← l, ← k, ← x) h in
+            let test : getD env i 0 + 1 < lowestCode (kindIn signature i) + radixOf (kindIn signature i) n = rw (same, ← b, ← l, ← k, ← x) h in
             let up : next ≡ getD env i 0 + 1 = rw same x in
             rw (← same) (ap (set env i) up ∙ sym (q ∙ rw (lt-ltb _ _ test)))
 
-    pub step-goes : low + K ≤ next → {all : List ℕ} → all ≡ stepped kinds n i env → all ≡ stepped kinds n (i - 1) (set env (i - 1) low)
+    pub step-goes : low + K ≤ next → {all : List ℕ} → all ≡ stepped signature n i env → all ≡ stepped signature n (i - 1) (set env (i - 1) low)
     unfolding stepped
     step-goes h q = go i some b x q
       where
-        go : (i : ℕ) → 0 < i → kind ≡ kindIn kinds (i - 1) → next ≡ getD env (i - 1) 0 + 1 → {all : List ℕ} → all ≡ stepped kinds n i env
-            → all ≡ stepped kinds n (i - 1) (set env (i - 1) low)
+        go : (i : ℕ) → 0 < i → kind ≡ kindIn signature (i - 1) → next ≡ getD env (i - 1) 0 + 1 → {all : List ℕ} → all ≡ stepped signature n i env
+            → all ≡ stepped signature n (i - 1) (set env (i - 1) low)
         go zero z b x q = absurd (omega arith)
         go (suc i) z b x q =
             let same : i ≡ suc i - 1 = omega arith in
-            let test : lowestCode (kindIn kinds i) + radixOf (kindIn kinds i) n ≤ getD env i 0 + 1 = rw (same, ← b, ← l, ← k, ← x) h in
-            let first : lowestCode (kindIn kinds i) ≡ low = rw (same, ← b) (sym l) in
+            let test : lowestCode (kindIn signature i) + radixOf (kindIn signature i) n ≤ getD env i 0 + 1 = rw (same, ← b, ← l, ← k, ← x) h in
+            let first : lowestCode (kindIn signature i) ≡ low = rw (same, ← b) (sym l) in
             rw (← same) (q ∙ rw (le-ltb _ _ test, first))
 
-  pub step-whole : (i : ℕ) (env : List ℕ) {all : List ℕ} → all ≡ stepped kinds n i env → i ≤ 0 → env ≡ all
+  pub step-whole : (i : ℕ) (env : List ℕ) {all : List ℕ} → all ≡ stepped signature n i env → i ≤ 0 → env ≡ all
   unfolding stepped
   step-whole zero env q h = sym q
   step-whole (suc i) env q h = absurd (omega arith)
 
   -- ---- Steps
 
-  step-other : (c : ℕ) (env : List ℕ) (j v : ℕ) → c ≤ j → stepped kinds n c (set env j v) ≡ set (stepped kinds n c env) j v
+  step-other : (c : ℕ) (env : List ℕ) (j v : ℕ) → c ≤ j → stepped signature n c (set env j v) ≡ set (stepped signature n c env) j v
   unfolding stepped
   step-other zero env j v h = refl
   step-other (suc c) env j v h =
       let same = getD-set-other env j c v 0 (λ e. omega arith) in
       rw same (go (λ e. step-other c e j v (omega arith)) (ltb (getD env c 0 + 1) (lowest c + radix c)))
     where
-      go : ((e : List ℕ) → stepped kinds n c (set e j v) ≡ set (stepped kinds n c e) j v) → (b : Bool)
-          → cond b (set (set env j v) c (getD env c 0 + 1)) (stepped kinds n c (set (set env j v) c (lowest c)))
-          ≡ set (cond b (set env c (getD env c 0 + 1)) (stepped kinds n c (set env c (lowest c)))) j v
+      go : ((e : List ℕ) → stepped signature n c (set e j v) ≡ set (stepped signature n c e) j v) → (b : Bool)
+          → cond b (set (set env j v) c (getD env c 0 + 1)) (stepped signature n c (set (set env j v) c (lowest c)))
+          ≡ set (cond b (set env c (getD env c 0 + 1)) (stepped signature n c (set env c (lowest c)))) j v
       go ih true = set-comm env j c v _ (λ e. omega arith)
-      go ih false = ap (stepped kinds n c) (set-comm env j c v _ (λ e. omega arith)) ∙ ih (set env c (lowest c))
+      go ih false = ap (stepped signature n c) (set-comm env j c v _ (λ e. omega arith)) ∙ ih (set env c (lowest c))
 
   -- one digit up, where it has not reached its kind's last value, and where it has
   step-up : (c : ℕ) (env : List ℕ) (d : ℕ) → Short n → c < length env → getD env c 0 ≡ numberAt c d → d + 1 < radix c
-      → stepped kinds n (suc c) env ≡ set env c (numberAt c (d + 1))
+      → stepped signature n (suc c) env ≡ set env c (numberAt c (d + 1))
   unfolding stepped
   step-up c env d few room e h =
-      let now = small-number (kindIn kinds c) n d few (omega arith) in
-      let next = small-number (kindIn kinds c) n (d + 1) few h in
+      let now = small-number (kindIn signature c) n d few (omega arith) in
+      let next = small-number (kindIn signature c) n (d + 1) few h in
       let test : getD env c 0 + 1 < lowest c + radix c = omega arith in
       let up : getD env c 0 + 1 ≡ numberAt c (d + 1) = omega arith in
       rw (lt-ltb _ _ test, up)
 
   step-carry : (c : ℕ) (env : List ℕ) (d : ℕ) → Short n → getD env c 0 ≡ numberAt c d → d < radix c → radix c ≤ d + 1
-      → stepped kinds n (suc c) env ≡ stepped kinds n c (set env c (numberAt c 0))
+      → stepped signature n (suc c) env ≡ stepped signature n c (set env c (numberAt c 0))
   unfolding stepped
   step-carry c env d few e l h =
-      let now = small-number (kindIn kinds c) n d few l in
-      let first = small-number (kindIn kinds c) n 0 few (radix-pos (kindIn kinds c) n) in
+      let now = small-number (kindIn signature c) n d few l in
+      let first = small-number (kindIn signature c) n 0 few (radix-pos (kindIn signature c) n) in
       let test : lowest c + radix c ≤ getD env c 0 + 1 = omega arith in
       let low : lowest c ≡ numberAt c 0 = omega arith in
-      rw (le-ltb _ _ test) (ap (λ (v : ℕ). stepped kinds n c (set env c v)) low)
+      rw (le-ltb _ _ test) (ap (λ (v : ℕ). stepped signature n c (set env c v)) low)
 
   -- a number and the next, by their last digits
   module _ (x K : ℕ) (pos : 0 < K) where
@@ -212,7 +212,7 @@ module _ (kinds : ℕ) (n : Lengths) where
         let next : (x / K + 1) * K + 0 ≡ x + 1 = omega (arith, split) in
         (sym (digits-div (x / K + 1) pos) ∙ ap (λ (y : ℕ). y / K) next, sym (digits-mod (x / K + 1) pos) ∙ ap (λ (y : ℕ). y % K) next)
 
-  length-values : (c x : ℕ) (env : List ℕ) → length (valuesInto kinds n c x env) ≡ length env
+  length-values : (c x : ℕ) (env : List ℕ) → length (valuesInto signature n c x env) ≡ length env
   unfolding valuesInto
   length-values zero x env = refl
   length-values (suc zero) x env = length-set env 0 _
@@ -230,48 +230,48 @@ module _ (kinds : ℕ) (n : Lengths) where
     before = set env i (numberAt i (x % K))
 
     pos : 0 < K
-    pos = radix-pos (kindIn kinds (suc c)) n
+    pos = radix-pos (kindIn signature (suc c)) n
 
-    digit-here : getD (valuesInto kinds n i (x / K) before) i 0 ≡ numberAt i (x % K)
+    digit-here : getD (valuesInto signature n i (x / K) before) i 0 ≡ numberAt i (x % K)
     digit-here = values-above i (x / K) before i (omega arith) ∙ getD-set-same env i (numberAt i (x % K)) 0 room
 
-    put-digit : (v : ℕ) → set (valuesInto kinds n i (x / K) before) i v ≡ valuesInto kinds n i (x / K) (set env i v)
+    put-digit : (v : ℕ) → set (valuesInto signature n i (x / K) before) i v ≡ valuesInto signature n i (x / K) (set env i v)
     put-digit v =
         sym (values-other i (x / K) before i v (omega arith))
-        ∙ ap (valuesInto kinds n i (x / K)) (set-set env i (numberAt i (x % K)) v)
+        ∙ ap (valuesInto signature n i (x / K)) (set-set env i (numberAt i (x % K)) v)
 
-    long : i < length (valuesInto kinds n i (x / K) before)
+    long : i < length (valuesInto signature n i (x / K) before)
     long = omega (arith, length-values i (x / K) before, length-set env i (numberAt i (x % K)), room)
 
-    next-above : x + 1 < sizeFrom kinds n 0 (suc i) → (x + 1) / K < sizeFrom kinds n 0 i
+    next-above : x + 1 < sizeFrom signature n 0 (suc i) → (x + 1) / K < sizeFrom signature n 0 i
     next-above h =
-        let rows : sizeFrom kinds n 0 (suc i) ≡ sizeFrom kinds n 0 i * K =
-        size-snoc 0 i ∙ ap (λ (j : ℕ). sizeFrom kinds n 0 i * radix j) (zero-add i) in
+        let rows : sizeFrom signature n 0 (suc i) ≡ sizeFrom signature n 0 i * K =
+        size-snoc 0 i ∙ ap (λ (j : ℕ). sizeFrom signature n 0 i * radix j) (zero-add i) in
         div-lt-iff-lt-mul pos .1 (rw rows at h)
 
-    step-more : x + 1 < sizeFrom kinds n 0 (suc i)
-        → ((y : ℕ) → y + 1 < sizeFrom kinds n 0 i
-        → stepped kinds n i (valuesInto kinds n i y (set env i (numberAt i 0))) ≡ valuesInto kinds n i (y + 1) (set env i (numberAt i 0)))
+    step-more : x + 1 < sizeFrom signature n 0 (suc i)
+        → ((y : ℕ) → y + 1 < sizeFrom signature n 0 i
+        → stepped signature n i (valuesInto signature n i y (set env i (numberAt i 0))) ≡ valuesInto signature n i (y + 1) (set env i (numberAt i 0)))
         → (b : Bool) → ltb (x % K + 1) K ≡ b
-        → stepped kinds n (suc i) (valuesInto kinds n i (x / K) before) ≡ valuesInto kinds n i ((x + 1) / K) (set env i (numberAt i ((x + 1) % K)))
+        → stepped signature n (suc i) (valuesInto signature n i (x / K) before) ≡ valuesInto signature n i ((x + 1) / K) (set env i (numberAt i ((x + 1) % K)))
     step-more h ih true t =
         let l = ltb-true _ _ t in
         let u = up-digits x K pos l in
-        step-up i (valuesInto kinds n i (x / K) before) (x % K) few long digit-here l
+        step-up i (valuesInto signature n i (x / K) before) (x % K) few long digit-here l
         ∙ put-digit (numberAt i (x % K + 1))
-        ∙ ap (λ (q : ℕ). valuesInto kinds n i q (set env i (numberAt i (x % K + 1)))) (u .0)
-        ∙ ap (λ (m : ℕ). valuesInto kinds n i ((x + 1) / K) (set env i (numberAt i m))) (u .1)
+        ∙ ap (λ (q : ℕ). valuesInto signature n i q (set env i (numberAt i (x % K + 1)))) (u .0)
+        ∙ ap (λ (m : ℕ). valuesInto signature n i ((x + 1) / K) (set env i (numberAt i m))) (u .1)
     step-more h ih false t =
         let l = ltb-false _ _ t in
         let u = carry-digits x K pos l in
-        step-carry i (valuesInto kinds n i (x / K) before) (x % K) few digit-here (mod-lt x pos) l
-        ∙ ap (stepped kinds n i) (put-digit (numberAt i 0))
+        step-carry i (valuesInto signature n i (x / K) before) (x % K) few digit-here (mod-lt x pos) l
+        ∙ ap (stepped signature n i) (put-digit (numberAt i 0))
         ∙ ih (x / K) (rw (u .0) (next-above h))
-        ∙ ap (λ (q : ℕ). valuesInto kinds n i q (set env i (numberAt i 0))) (u .0)
-        ∙ ap (λ (m : ℕ). valuesInto kinds n i ((x + 1) / K) (set env i (numberAt i m))) (u .1)
+        ∙ ap (λ (q : ℕ). valuesInto signature n i q (set env i (numberAt i 0))) (u .0)
+        ∙ ap (λ (m : ℕ). valuesInto signature n i ((x + 1) / K) (set env i (numberAt i m))) (u .1)
 
-  pub step-values : Short n → (c x : ℕ) (env : List ℕ) → c ≤ length env → x + 1 < sizeFrom kinds n 0 c
-      → stepped kinds n c (valuesInto kinds n c x env) ≡ valuesInto kinds n c (x + 1) env
+  pub step-values : Short n → (c x : ℕ) (env : List ℕ) → c ≤ length env → x + 1 < sizeFrom signature n 0 c
+      → stepped signature n c (valuesInto signature n c x env) ≡ valuesInto signature n c (x + 1) env
   unfolding valuesInto sizeFrom
   step-values few zero x env h l = absurd (omega arith)
   step-values few (suc zero) x env h l =
@@ -284,11 +284,11 @@ module _ (kinds : ℕ) (n : Lengths) where
       (ltb (x % radix (suc c) + 1) (radix (suc c))) refl
 
   -- from row to row, whatever stands in the last parameter's place
-  pub step-others : Short n → (c x : ℕ) (env now : List ℕ) {next : List ℕ} → c ≤ length env → x + 1 < sizeFrom kinds n 0 c
-      → SameOthers c (valuesInto kinds n c x env) now → next ≡ stepped kinds n c now → SameOthers c (valuesInto kinds n c (x + 1) env) next
+  pub step-others : Short n → (c x : ℕ) (env now : List ℕ) {next : List ℕ} → c ≤ length env → x + 1 < sizeFrom signature n 0 c
+      → SameOthers c (valuesInto signature n c x env) now → next ≡ stepped signature n c now → SameOthers c (valuesInto signature n c (x + 1) env) next
   step-others few c x env now h l e q v =
       ap (λ (m : List ℕ). set m c v) q
       ∙ sym (step-other c now c v (omega arith))
-      ∙ ap (stepped kinds n c) (e v)
-      ∙ step-other c (valuesInto kinds n c x env) c v (omega arith)
+      ∙ ap (stepped signature n c) (e v)
+      ∙ step-other c (valuesInto signature n c x env) c v (omega arith)
       ∙ ap (λ (m : List ℕ). set m c v) (step-values few c x env h l)

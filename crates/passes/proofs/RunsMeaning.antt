@@ -17,7 +17,7 @@ use Rattle.codes.specs.declared.Lengths.{Lengths}
 use Rattle.codes.specs.{Short}
 use Rattle.passes.proofs.FunctionsMeaning.{sizes-mean}
 use Rattle.passes.proofs.ValuesMeaning.{env-means}
-use Rattle.passes.proofs.SetupMeaning.{tracesFor, arraysOf, first-is, kinds-are, count-is, sets}
+use Rattle.passes.proofs.SetupMeaning.{tracesFor, arraysOf, first-is, signature-is, count-is, sets}
 use Rattle.passes.proofs.PassMeaning.{Runs}
 
 module _ {bytes : List ℕ} {s : Sort} {P : Program} (a : Accepted bytes s P) where
@@ -38,7 +38,7 @@ module _ {bytes : List ℕ} {s : Sort} {P : Program} (a : Accepted bytes s P) wh
         kinds = a .kinds;
         sizes = λ g f e. sizes-mean a (tracesFor ram guard n) n (u .lengths) g f e;
         envs = λ g f i e h.
-            rw (kinds-are a ram guard n few fits g f e, count-is a ram guard n few fits g f e)
+            rw (signature-is a ram guard n few fits g f e, count-is a ram guard n few fits g f e)
             (env-means (u .lengths) (u .samples) (f .params) (f .result) (a .fits g f e .params) i h);
         bodies = starts-at;
         deep = λ g f e. a .fits g f e .deep;

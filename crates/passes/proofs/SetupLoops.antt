@@ -1,6 +1,5 @@
 -- Laws of setting up, for each loop of the code its start, a turn, its end:
 --   shortened-short, short-shortened                   lengths cut to those that traces can have
---   radix-bound, radix-pos, lowest-small               how many values a kind has, and the number of the first
 --   Product, size-start, size-more, size-fits,
 --   size-whole                                         the product of the sizes of parameters, from the last down
 --   size-nonzero                                       every function has a configuration
@@ -9,22 +8,21 @@
 --   cells-listed, functions-of, total-of               the array of functions and the total
 --   traces-whole                                       the bytes of the traces, copied into zeros
 use mathlib.Core.Path.{_≡_, refl, sym, ap, _∙_}
-use mathlib.Core.Bool.{Bool, true, false, cond}
 use mathlib.Core.List.{List, [], _++_, append-assoc}
 use Prim.Native.Nat.{ℕ, zero, suc, _+_, _-_, _*_, _/_, _%_, _^_, _<_, _≤_, min}
 use native.Mathlib.Nat.{mul-pos, mul-le-mul, pow-succ', pow-le-pow-right, min-eq-left}
 use native.Mathlib.Numerals.{add-one, sub-one}
 use native.Mathlib.Omega.{arith}
-use lib.Dec.{eqb}
 use lib.ListN.{length, getD, set, take, drop, replicate, length-take, replicate-append-replicate}
 use lib.Seq.{take-length, take-at, drop-at, drop-drop, paste}
 use Rattle.syntax.specs.Limits.{mostFunctions, mostParams}
-use Rattle.syntax.specs.Kinds.{truthKind, guardKind, kindIn}
+use Rattle.syntax.specs.Kinds.{kindIn}
 use Rattle.rule.specs.Form.{padded}
 use Rattle.rule.specs.Walk.{atMostFour}
 use Rattle.rule.proofs.Padded.{length-padded}
 use Rattle.codes.specs.declared.Lengths.{Lengths}
-use Rattle.codes.specs.{Short, guardCode, lowestCode, mostTraceBytes, radixOf}
+use Rattle.codes.specs.{Short, mostTraceBytes, radixOf}
+use Rattle.codes.proofs.Bounds.{radix-small, radix-pos}
 use Rattle.passes.specs.Mirror.{mostValues, mostConfigurations, shortened, valueNumber, sizeFrom, valuesInto, tracesOf}
 use Rattle.passes.specs.Mirror.{Heads, signatureAt, totalBefore, functionsUpto, functionsOf, totalOf}
 
@@ -38,34 +36,11 @@ short-shortened n e = rw e (omega arith, omega arith)
 
 -- ---- Sizes
 
-pub radix-bound : (kind : ℕ) (n : Lengths) → Short n → radixOf kind n ≤ mostValues
-radix-bound kind n h = go (eqb kind truthKind) (eqb kind guardKind)
-  where
-    go : (b g : Bool) → cond b 2 (cond g (n .guard) (n .ram) + 1) ≤ mostValues
-    go true g = omega arith
-    go false true = omega (arith, h .1)
-    go false false = omega (arith, h .0)
-
-pub radix-pos : (kind : ℕ) (n : Lengths) → 0 < radixOf kind n
-radix-pos kind n = go (eqb kind truthKind)
-  where
-    go : (b : Bool) → 0 < cond b 2 (cond (eqb kind guardKind) (n .guard) (n .ram) + 1)
-    go true = omega arith
-    go false = omega arith
-
-pub lowest-small : (kind : ℕ) → lowestCode kind ≤ guardCode
-lowest-small kind = go (eqb kind truthKind) (eqb kind guardKind)
-  where
-    go : (b g : Bool) → cond b 1 (cond g guardCode 5) ≤ guardCode
-    go true g = omega arith
-    go false true = omega arith
-    go false false = omega arith
-
-module _ (kinds : ℕ) (n : Lengths) (count : ℕ) where
+module _ (signature : ℕ) (n : Lengths) (count : ℕ) where
   -- the product of the parameters from i on
   pub record Product (product i : ℕ) : Type 0 where
     pub below : i ≤ count
-    pub size : product ≡ sizeFrom kinds n i (count - i)
+    pub size : product ≡ sizeFrom signature n i (count - i)
     pub bound : product ≤ mostValues ^ (count - i)
 
   pub size-start : Product 1 count
@@ -75,13 +50,13 @@ module _ (kinds : ℕ) (n : Lengths) (count : ℕ) where
       record { below = omega arith; size = rw e; bound = rw e (omega arith) }
 
   pub size-more : (i : ℕ) {product radix kind : ℕ} → Product product i → 0 < i → Short n
-      → kind ≡ kindIn kinds (i - 1) → radix ≡ radixOf kind n
+      → kind ≡ kindIn signature (i - 1) → radix ≡ radixOf kind n
       → Product (radix * product) (i - 1)
   unfolding sizeFrom
   size-more zero u h few b r = absurd (omega arith)
   size-more (suc i) {product} {radix} {kind} u h few b r =
       let k : count - i ≡ suc (count - suc i) = omega (arith, u .below) in
-      let top : radix ≤ mostValues = rw r (radix-bound kind n few) in
+      let top : radix ≤ mostValues = rw r (radix-small kind n few) in
       record {
         below = omega (arith, u .below);
         size = simp (sub-one, k, add-one, r, b, u .size);
@@ -91,34 +66,34 @@ module _ (kinds : ℕ) (n : Lengths) (count : ℕ) where
   pub size-fits : (i : ℕ) {product : ℕ} → Product product i → count ≤ mostParams → product ≤ mostConfigurations
   size-fits i u few = let h : count - i ≤ mostParams = omega arith in omega (arith, u .bound, pow-le-pow-right {n = mostValues} (omega arith) h)
 
-  pub size-whole : (i : ℕ) {product : ℕ} → Product product i → i ≤ 0 → product ≡ sizeFrom kinds n 0 count
+  pub size-whole : (i : ℕ) {product : ℕ} → Product product i → i ≤ 0 → product ≡ sizeFrom signature n 0 count
   size-whole zero u h = let k : count - 0 ≡ count = omega arith in rw k at (u .size)
   size-whole (suc i) u h = absurd (omega arith)
 
-pub size-nonzero : (kinds : ℕ) (n : Lengths) (i count : ℕ) → 0 < sizeFrom kinds n i count
+pub size-nonzero : (signature : ℕ) (n : Lengths) (i count : ℕ) → 0 < sizeFrom signature n i count
 unfolding sizeFrom
-size-nonzero kinds n i zero = omega arith
-size-nonzero kinds n i (suc c) = mul-pos (radix-pos (kindIn kinds i) n) (size-nonzero kinds n (i + 1) c)
+size-nonzero signature n i zero = omega arith
+size-nonzero signature n i (suc c) = mul-pos (radix-pos (kindIn signature i) n) (size-nonzero signature n (i + 1) c)
 
 -- ---- Values
 
-module _ (kinds : ℕ) (n : Lengths) where
-  pub values-more : (i rest : ℕ) (env : List ℕ) {kind radix value : ℕ} {all : List ℕ} → all ≡ valuesInto kinds n i rest env → 1 < i
-      → kind ≡ kindIn kinds (i - 1) → radix ≡ radixOf kind n → value ≡ valueNumber kind (rest % radix)
-      → all ≡ valuesInto kinds n (i - 1) (rest / radix) (set env (i - 1) value)
+module _ (signature : ℕ) (n : Lengths) where
+  pub values-more : (i rest : ℕ) (env : List ℕ) {kind radix value : ℕ} {all : List ℕ} → all ≡ valuesInto signature n i rest env → 1 < i
+      → kind ≡ kindIn signature (i - 1) → radix ≡ radixOf kind n → value ≡ valueNumber kind (rest % radix)
+      → all ≡ valuesInto signature n (i - 1) (rest / radix) (set env (i - 1) value)
   unfolding valuesInto
   values-more zero rest env e h b r v = absurd (omega arith)
   values-more (suc zero) rest env e h b r v = absurd (omega arith)
   values-more (suc (suc i)) rest env e h b r v = simp (v, r, b, sub-one) e
 
-  pub values-one : (i rest : ℕ) (env : List ℕ) {kind value : ℕ} {all : List ℕ} → all ≡ valuesInto kinds n i rest env → i ≤ 1 → 0 < i
-      → kind ≡ kindIn kinds 0 → value ≡ valueNumber kind rest → set env 0 value ≡ all
+  pub values-one : (i rest : ℕ) (env : List ℕ) {kind value : ℕ} {all : List ℕ} → all ≡ valuesInto signature n i rest env → i ≤ 1 → 0 < i
+      → kind ≡ kindIn signature 0 → value ≡ valueNumber kind rest → set env 0 value ≡ all
   unfolding valuesInto
   values-one zero rest env e l h b v = absurd (omega arith)
   values-one (suc zero) rest env e l h b v = simp (v, b) (sym e)
   values-one (suc (suc i)) rest env e l h b v = absurd (omega arith)
 
-  pub values-none : (i rest : ℕ) (env : List ℕ) {all : List ℕ} → all ≡ valuesInto kinds n i rest env → i ≤ 0 → env ≡ all
+  pub values-none : (i rest : ℕ) (env : List ℕ) {all : List ℕ} → all ≡ valuesInto signature n i rest env → i ≤ 0 → env ≡ all
   unfolding valuesInto
   values-none zero rest env e h = sym e
   values-none (suc i) rest env e h = absurd (omega arith)

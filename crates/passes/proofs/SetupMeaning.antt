@@ -3,18 +3,18 @@
 --   traces-short                        the traces that bytes mean, and their lengths
 --   traces-mean                         the array of the traces
 --   arraysOf                            all of them
---   first-is, kinds-are, count-is       what the array of functions has of each
+--   first-is, signature-is, count-is       what the array of functions has of each
 --   sets                                what ties words and bytes to the program and the traces
 use mathlib.Core.Path.{_≡_, sym, ap, _∙_}
 use mathlib.Core.Bool.{Bool, false, cond}
 use mathlib.Core.List.{List, _++_}
 use mathlib.Core.Option.{some}
-use Prim.Native.Nat.{ℕ, _+_, _-_, _/_, _%_, _<_, _≤_}
-use native.Mathlib.Nat.{mod-eq-of-lt, zero-add}
+use Prim.Native.Nat.{ℕ, _+_, _-_, _*_, _/_, _%_, _<_, _≤_}
+use native.Mathlib.Nat.{zero-add}
 use native.Mathlib.Omega.{arith}
 use lib.ListN.{length, getElem?, getD, take, replicate, length-replicate, length-take, List·getD-append}
 use lib.Seq.{getD-append-add, getD-take}
-use Rattle.trace.specs.{mostSamples, bitOf, sampleAt, samples}
+use Rattle.trace.specs.{mostSamples, sampleAt, samples}
 use Rattle.trace.proofs.Packing.{length-samples, samples-at}
 use Rattle.semantics.specs.declared.Contact.{Contact}
 use Rattle.semantics.specs.declared.Contact.the-variants.{Ram, Guard}
@@ -37,8 +37,8 @@ use Rattle.decoding.proofs.Ends.{ends-mean, arguments-mean}
 use Rattle.decoding.proofs.Filled.{node-filled, function-filled, param-filled}
 use Rattle.evaluator.specs.{functionAt, paramAt}
 use Rattle.evaluator.proofs.Sets.{firstCell, Sets}
-use Rattle.passes.specs.Mirror.{Setup, setup, firstOf, kindsOf, countOf, functionsUpto, tracesOf}
-use Rattle.passes.proofs.FunctionsMeaning.{signatureFor, param-kind, result-kind, headsFor, first-means, kinds-mean, count-means}
+use Rattle.passes.specs.Mirror.{Setup, setup, firstOf, signatureIn, countOf, functionsUpto, tracesOf}
+use Rattle.passes.proofs.FunctionsMeaning.{signatureFor, param-kind, result-kind, headsFor, first-means, signature-means, count-means}
 
 -- ---- The traces
 
@@ -86,7 +86,7 @@ module _ (ram guard : List ℕ) where
       ∙ part-at guard j h
 
   -- the byte and the bit of a place among the samples of both
-  byte-of : (c : Contact) (i : ℕ) → i < mostSamples → (placesFrom c + i) / 8 % 1024 ≡ bytesFrom c + i / 8
+  byte-of : (c : Contact) (i : ℕ) → i < mostSamples → (placesFrom c + i) / 8 % (2 * mostTraceBytes) ≡ bytesFrom c + i / 8
   byte-of Ram i h = omega arith
   byte-of Guard i h = omega arith
 
@@ -135,14 +135,14 @@ module _ {bytes : List ℕ} {s : Sort} {P : Program} (a : Accepted bytes s P) (r
     pub first-is : firstOf F g ≡ firstCell t P g
     first-is = first-means a t n (lengths-are ram guard n) g f e
 
-    pub kinds-are : kindsOf F g ≡ signatureFor (f .params) (f .result)
-    kinds-are = kinds-mean a t n (lengths-are ram guard n) g f e
+    pub signature-is : signatureIn F g ≡ signatureFor (f .params) (f .result)
+    signature-is = signature-means a t n (lengths-are ram guard n) g f e
 
     pub count-is : countOf F g ≡ length (f .params)
     count-is = count-means a t n (lengths-are ram guard n) g f e
 
     result-is : kindIn (getD F (32 + g) 0) 4 ≡ kindNumber (f .result)
-    result-is = rw kinds-are (result-kind (f .params) (f .result) (a .fits g f e .params))
+    result-is = rw signature-is (result-kind (f .params) (f .result) (a .fits g f e .params))
 
     function-is : functionAt (S .words) g ≡ functionWord (firstCell t P g) (kindNumber (f .result)) n
     function-is =
@@ -154,7 +154,7 @@ module _ {bytes : List ℕ} {s : Sort} {P : Program} (a : Accepted bytes s P) (r
         let narrow = a .fits g f e .params in
         let below : i < mostParams = omega (arith, place-below (f .params) i κ h) in
         param-filled bytes (outlineOf s P .params) F (length P) n (replicate mostWords 0) zeros (a .short) (a .few) g i (place-below P g f e) below
-        ∙ rw (kinds-are, param-kind (f .params) (f .result) narrow i κ h)
+        ∙ rw (signature-is, param-kind (f .params) (f .result) narrow i κ h)
 
   pub sets : Sets P t n bytes (S .words) (S .traces)
   sets =

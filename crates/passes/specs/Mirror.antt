@@ -12,6 +12,7 @@ use Rattle.codes.specs.declared.Lengths.{Lengths}
 use Rattle.codes.specs.{mostTraceBytes, ramEnd, guardEnd, Short, radixOf, valueCode, lowestCode, cellCode}
 use Rattle.syntax.specs.Limits.{mostFunctions, mostBytes, mostDepth}
 use Rattle.syntax.specs.Kinds.{signatureOf, kindIn}
+use Rattle.rule.specs.declared.Outline.{Outline}
 use Rattle.rule.specs.Form.{padded}
 use Rattle.rule.specs.Walk.{atMostFour}
 use Rattle.decoding.specs.Words.{heldIn}
@@ -37,8 +38,8 @@ shortened n = record { ram = min (n .ram) mostSamples; guard = min (n .guard) mo
 
 -- how many configurations so many parameters have, from parameter i on
 unfoldable pub sizeFrom : ℕ → Lengths → ℕ → ℕ → ℕ
-sizeFrom kinds n i zero = 1
-sizeFrom kinds n i (suc left) = radixOf (kindIn kinds i) n * sizeFrom kinds n (i + 1) left
+sizeFrom signature n i zero = 1
+sizeFrom signature n i (suc left) = radixOf (kindIn signature i) n * sizeFrom signature n (i + 1) left
 
 -- the working number of a value of a kind, by its digit
 abbrev pub valueNumber : ℕ → ℕ → ℕ
@@ -46,32 +47,32 @@ valueNumber kind digit = valueCode kind (digit % digitBound) % digitBound
 
 -- the numbers of the values of parameters 0 to i - 1 in configuration `index`, put into env
 unfoldable pub valuesInto : ℕ → Lengths → ℕ → ℕ → List ℕ → List ℕ
-valuesInto kinds n zero index env = env
-valuesInto kinds n (suc zero) index env = set env 0 (valueNumber (kindIn kinds 0) index)
-valuesInto kinds n (suc (suc i)) index env =
-    let radix = radixOf (kindIn kinds (suc i)) n in
-    valuesInto kinds n (suc i) (index / radix) (set env (suc i) (valueNumber (kindIn kinds (suc i)) (index % radix)))
+valuesInto signature n zero index env = env
+valuesInto signature n (suc zero) index env = set env 0 (valueNumber (kindIn signature 0) index)
+valuesInto signature n (suc (suc i)) index env =
+    let radix = radixOf (kindIn signature (suc i)) n in
+    valuesInto signature n (suc i) (index / radix) (set env (suc i) (valueNumber (kindIn signature (suc i)) (index % radix)))
 
 -- A row: the configurations in which only the last parameter differs. Where there is no parameter, a row has one
 -- configuration, and parameter 0 stands for the last with the one number 0.
 
 abbrev pub rowWidth : ℕ → Lengths → ℕ → ℕ
-rowWidth kinds n zero = 1
-rowWidth kinds n (suc c) = radixOf (kindIn kinds c) n
+rowWidth signature n zero = 1
+rowWidth signature n (suc c) = radixOf (kindIn signature c) n
 
 -- the number of the last parameter's first value
 abbrev pub rowLowest : ℕ → ℕ → ℕ
-rowLowest kinds zero = 0
-rowLowest kinds (suc c) = lowestCode (kindIn kinds c)
+rowLowest signature zero = 0
+rowLowest signature (suc c) = lowestCode (kindIn signature c)
 
 -- the values of so many parameters stepped as digits: the last goes up by one, with a carry to the left where it has
 -- reached its kind's last value
 unfoldable pub stepped : ℕ → Lengths → ℕ → List ℕ → List ℕ
-stepped kinds n zero env = env
-stepped kinds n (suc i) env =
-    let kind = kindIn kinds i in
+stepped signature n zero env = env
+stepped signature n (suc i) env =
+    let kind = kindIn signature i in
     cond (ltb (getD env i 0 + 1) (lowestCode kind + radixOf kind n)) (set env i (getD env i 0 + 1))
-    (stepped kinds n i (set env i (lowestCode kind)))
+    (stepped signature n i (set env i (lowestCode kind)))
 
 -- ---- The arrays of an evaluation
 
@@ -87,8 +88,8 @@ setup words functions traces = record { words = words; functions = functions; tr
 abbrev pub firstOf : List ℕ → ℕ → ℕ
 firstOf functions g = getD functions g 0
 
-abbrev pub kindsOf : List ℕ → ℕ → ℕ
-kindsOf functions g = getD functions (32 + g) 0
+abbrev pub signatureIn : List ℕ → ℕ → ℕ
+signatureIn functions g = getD functions (32 + g) 0
 
 abbrev pub countOf : List ℕ → ℕ → ℕ
 countOf functions g = atMostFour (getD functions (64 + g) 0 % 256)
@@ -100,7 +101,7 @@ bodyAt words start = getD words (start % mostBytes) 0
 -- ---- Cells and passes
 
 abbrev pub sizeOf : List ℕ → Lengths → ℕ → ℕ
-sizeOf functions n g = sizeFrom (kindsOf functions g) n 0 (countOf functions g)
+sizeOf functions n g = sizeFrom (signatureIn functions g) n 0 (countOf functions g)
 
 -- what parameter values are put into; at 4 and 5 it has what places of samples are worked out from
 abbrev pub blank : Lengths → List ℕ
@@ -108,7 +109,7 @@ blank n = 0 ∷ 0 ∷ 0 ∷ 0 ∷ (n .ram + ramEnd) ∷ (n .guard + guardEnd) �
 
 -- the parameter values of configuration `index` of a function
 abbrev pub envAt : List ℕ → Lengths → ℕ → ℕ → List ℕ
-envAt functions n g index = valuesInto (kindsOf functions g) n (countOf functions g) index (blank n)
+envAt functions n g index = valuesInto (signatureIn functions g) n (countOf functions g) index (blank n)
 
 -- the number of the outcome of a configuration's body, with calls looked up in the table
 unfoldable pub filledAt : Setup → Lengths → ℕ → ℕ → List ℕ → ℕ → ℕ
@@ -151,15 +152,15 @@ pub record Ready (functions : List ℕ) (n : Lengths) (g len : ℕ) : Type 0 whe
 -- parameter's number put in they are those of each configuration of the row
 pub record RowReady (functions : List ℕ) (n : Lengths) (g len base : ℕ) (env : List ℕ) : Type 0 where
   pub ready : Ready functions n g len
-  pub inside : base + rowWidth (kindsOf functions g) n (countOf functions g) ≤ sizeOf functions n g
-  pub values : (d : ℕ) → d < rowWidth (kindsOf functions g) n (countOf functions g)
-      → set env (countOf functions g - 1) (rowLowest (kindsOf functions g) (countOf functions g) + d) ≡ envAt functions n g (base + d)
+  pub inside : base + rowWidth (signatureIn functions g) n (countOf functions g) ≤ sizeOf functions n g
+  pub values : (d : ℕ) → d < rowWidth (signatureIn functions g) n (countOf functions g)
+      → set env (countOf functions g - 1) (rowLowest (signatureIn functions g) (countOf functions g) + d) ≡ envAt functions n g (base + d)
 
 -- two arrays of values that differ in the last parameter's place at most
 abbrev pub SameOthers : ℕ → List ℕ → List ℕ → Type 0
 SameOthers slot env env′ = (v : ℕ) → set env′ slot v ≡ set env slot v
 
--- the test of that
+-- whether a function is ready for a table of so many cells
 unfoldable pub fits : List ℕ → Lengths → ℕ → ℕ → Bool
 fits functions n g len = ltb g mostFunctions && (short n && leb (firstOf functions g + sizeOf functions n g) len)
 
@@ -201,6 +202,9 @@ pub record Heads : Type 0 where
 
 abbrev pub heads : List ℕ → List ℕ → List ℕ → Heads
 heads kinds guards params = record { kinds = kinds; guards = guards; params = params }
+
+abbrev pub headsOf : Outline → Heads
+headsOf o = heads (o .kinds) (o .guards) (o .params)
 
 abbrev pub signatureAt : Heads → ℕ → ℕ
 signatureAt H g = signatureOf (getD (H .kinds) g 0) (getD (H .guards) g 0)

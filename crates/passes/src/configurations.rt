@@ -1,4 +1,4 @@
-// The configurations of a function: how many there are, and the parameter values of each. `kinds` is the function's signature.
+// The configurations of a function: how many there are, and the parameter values of each. A function is given by its signature.
 use codes::Lengths;
 ghost use mathlib.Core.Path.{_≡_};
 ghost use Prim.Native.Nat.{_-_, _<_, _≤_};
@@ -16,36 +16,36 @@ pub fn count(functions: &[u64; 96], g: usize) -> u64
 }
 
 // How many configurations a function has.
-pub fn size(kinds: u64, count: u64, n: Lengths) -> u64
+pub fn size(signature: u64, count: u64, n: Lengths) -> u64
     requires { ⌜ (count ≤ mostParams) × Short n ⌝ }
-    ensures { λ r. ⌜ (r ≡ sizeFrom kinds n 0 count) × (r ≤ mostConfigurations) ⌝ }
+    ensures { λ r. ⌜ (r ≡ sizeFrom signature n 0 count) × (r ≤ mostConfigurations) ⌝ }
 {
     let mut product: u64 = 1;
     let mut i = count;
     while 0 < i {
         i -= 1;
-        product = codes::radix(syntax::kind_at(kinds, i), n) * product;
+        product = codes::radix(syntax::kind_at(signature, i), n) * product;
     }
     product
 }
 
 // Writes the numbers of the parameter values of a configuration. What is left of its number after the other
 // parameters is the place of the first one's value: it takes no division.
-pub fn values(kinds: u64, count: u64, n: Lengths, index: u64, env: &mut [u16; 6])
+pub fn values(signature: u64, count: u64, n: Lengths, index: u64, env: &mut [u16; 6])
     requires { ⌜ (count ≤ mostParams) × Short n ⌝ }
-    ensures { λ _. ⌜ now (env .exit) ≡ valuesInto kinds n count index (now (env .entry)) ⌝ }
+    ensures { λ _. ⌜ now (env .exit) ≡ valuesInto signature n count index (now (env .entry)) ⌝ }
 {
     let mut rest = index;
     let mut i = count;
     while 1 < i {
         i -= 1;
-        let kind = syntax::kind_at(kinds, i);
+        let kind = syntax::kind_at(signature, i);
         let radix = codes::radix(kind, n);
         env[i as usize] = value(kind, rest % radix);
         rest = rest / radix;
     }
     if 0 < i {
-        env[0] = value(syntax::kind_at(kinds, 0), rest);
+        env[0] = value(syntax::kind_at(signature, 0), rest);
     }
 }
 
@@ -64,35 +64,35 @@ pub fn last(count: u64) -> u64
 }
 
 // How many configurations a row has, in which only the last parameter differs.
-pub fn row_width(kinds: u64, count: u64, n: Lengths) -> u64
-    ensures { λ r. ⌜ r ≡ rowWidth kinds n count ⌝ }
+pub fn row_width(signature: u64, count: u64, n: Lengths) -> u64
+    ensures { λ r. ⌜ r ≡ rowWidth signature n count ⌝ }
 {
     if count == 0 {
         return 1;
     }
-    codes::radix(syntax::kind_at(kinds, count - 1), n)
+    codes::radix(syntax::kind_at(signature, count - 1), n)
 }
 
 // The number of the last parameter's first value.
-pub fn row_lowest(kinds: u64, count: u64) -> u64
-    ensures { λ r. ⌜ r ≡ rowLowest kinds count ⌝ }
+pub fn row_lowest(signature: u64, count: u64) -> u64
+    ensures { λ r. ⌜ r ≡ rowLowest signature count ⌝ }
 {
     if count == 0 {
         return 0;
     }
-    codes::lowest(syntax::kind_at(kinds, count - 1))
+    codes::lowest(syntax::kind_at(signature, count - 1))
 }
 
 // Steps the values of the first so many parameters as digits: the last goes up by one, with a carry to the left
 // where it has reached its kind's last value.
-pub fn step(kinds: u64, count: u64, n: Lengths, env: &mut [u16; 6])
+pub fn step(signature: u64, count: u64, n: Lengths, env: &mut [u16; 6])
     requires { ⌜ (count ≤ mostParams) × Short n ⌝ }
-    ensures { λ _. ⌜ now (env .exit) ≡ stepped kinds n count (now (env .entry)) ⌝ }
+    ensures { λ _. ⌜ now (env .exit) ≡ stepped signature n count (now (env .entry)) ⌝ }
 {
     let mut i = count;
     while 0 < i {
         i -= 1;
-        let kind = syntax::kind_at(kinds, i);
+        let kind = syntax::kind_at(signature, i);
         let lowest = codes::lowest(kind);
         let next = wide(env[i as usize]) + 1;
         if next < lowest + codes::radix(kind, n) {

@@ -13,7 +13,7 @@ ghost use Prim.Native.Nat.{_+_, _-_, _<_, _≤_};
 ghost use lib.ListN.{length, set};
 ghost use Rattle.syntax.specs.Limits.{mostDepth};
 ghost use Rattle.evaluator.specs.{digitBound, evalWord};
-ghost use Rattle.passes.specs.Mirror.{setup, kindsOf, countOf, sizeOf, rowWidth, Ready, RowReady, SameOthers, fits, bodyAt, putIn, oneUnless};
+ghost use Rattle.passes.specs.Mirror.{setup, signatureIn, countOf, sizeOf, rowWidth, Ready, RowReady, SameOthers, fits, bodyAt, putIn, oneUnless};
 ghost use Rattle.passes.specs.Mirror.{visitsFrom, storesFrom, passVisits, passCounts, mostConfigurations, cleared, mainCellOf};
 
 // One pass over the cells of so many functions: how many outcomes it stored. A function whose cells do not
@@ -84,11 +84,11 @@ fn pass_function(
     ensures cells { λ _. ⌜ now (table .exit) ≡ visitsFrom (setup (now (words .entry)) (now (functions .entry)) (now (traces .entry))) n g body 0 (sizeOf (now (functions .entry)) n g) (now (table .entry)) ⌝ }
     ensures stored { λ r. ⌜ (r ≡ storesFrom (setup (now (words .entry)) (now (functions .entry)) (now (traces .entry))) n g body 0 (sizeOf (now (functions .entry)) n g) (now (table .entry))) × (r ≤ mostConfigurations) ⌝ }
 {
-    let kinds = functions[32 + g];
+    let signature = functions[32 + g];
     let count = configurations::count(functions, g);
     let others = configurations::last(count);
-    let rows = configurations::size(kinds, others, n);
-    let width = configurations::row_width(kinds, count, n) as usize;
+    let rows = configurations::size(signature, others, n);
+    let width = configurations::row_width(signature, count, n) as usize;
     let mut env = [
         0,
         0,
@@ -97,13 +97,13 @@ fn pass_function(
         n.ram + codes::RAM_END,
         n.guard + codes::GUARD_END,
     ];
-    configurations::values(kinds, others, n, 0, &mut env);
+    configurations::values(signature, others, n, 0, &mut env);
     let mut stored: usize = 0;
     let mut base: usize = 0;
     let mut r: u64 = 0;
     while r < rows {
         stored += row(words, traces, functions, table, &mut env, n, g, body, base);
-        configurations::step(kinds, others, n, &mut env);
+        configurations::step(signature, others, n, &mut env);
         base += width;
         r += 1;
     }
@@ -124,16 +124,16 @@ fn row(
     base: usize,
 ) -> usize
     requires { ⌜ RowReady (now functions) n g (length (now table)) base (now env) ⌝ }
-    ensures cells { λ _. ⌜ now (table .exit) ≡ visitsFrom (setup (now (words .entry)) (now (functions .entry)) (now (traces .entry))) n g body base (rowWidth (kindsOf (now (functions .entry)) g) n (countOf (now (functions .entry)) g)) (now (table .entry)) ⌝ }
+    ensures cells { λ _. ⌜ now (table .exit) ≡ visitsFrom (setup (now (words .entry)) (now (functions .entry)) (now (traces .entry))) n g body base (rowWidth (signatureIn (now (functions .entry)) g) n (countOf (now (functions .entry)) g)) (now (table .entry)) ⌝ }
     ensures env { λ _. ⌜ SameOthers (countOf (now (functions .entry)) g - 1) (now (env .entry)) (now (env .exit)) ⌝ }
-    ensures stored { λ r. ⌜ r ≡ storesFrom (setup (now (words .entry)) (now (functions .entry)) (now (traces .entry))) n g body base (rowWidth (kindsOf (now (functions .entry)) g) n (countOf (now (functions .entry)) g)) (now (table .entry)) ⌝ }
+    ensures stored { λ r. ⌜ r ≡ storesFrom (setup (now (words .entry)) (now (functions .entry)) (now (traces .entry))) n g body base (rowWidth (signatureIn (now (functions .entry)) g) n (countOf (now (functions .entry)) g)) (now (table .entry)) ⌝ }
 {
-    let kinds = functions[32 + g];
+    let signature = functions[32 + g];
     let count = configurations::count(functions, g);
     let function = words[FUNCTIONS + STRIDE * g];
     let slot = configurations::last(count) as usize;
-    let lowest = configurations::row_lowest(kinds, count);
-    let width = configurations::row_width(kinds, count, n);
+    let lowest = configurations::row_lowest(signature, count);
+    let width = configurations::row_width(signature, count, n);
     let start = functions[g] + base as u64;
     let mut stored: usize = 0;
     let mut d: u64 = 0;

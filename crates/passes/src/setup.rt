@@ -53,7 +53,7 @@ pub fn cells_of(
 {
     let mut functions = [0u64; 96];
     let mut total: u64 = 0;
-    let samples = configurations::shortened_lengths(n);
+    let lengths = configurations::shortened_lengths(n);
     let last = codes::smaller(count as usize, syntax::MOST_FUNCTIONS as usize);
     let mut g: usize = 0;
     while g < last {
@@ -61,7 +61,7 @@ pub fn cells_of(
         functions[g] = total;
         functions[32 + g] = signature;
         functions[64 + g] = wide(params[g]);
-        total += configurations::size(signature, rule::at_most_four(params[g]), samples);
+        total += configurations::size(signature, rule::at_most_four(params[g]), lengths);
         g += 1;
     }
     Cells { functions, total }

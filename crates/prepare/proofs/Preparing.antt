@@ -36,8 +36,8 @@ use Rattle.rule.specs.Reading as reading
 use Rattle.rule.proofs.Programs.{read-encoded, accepted-sort, takes-own}
 use Rattle.passes.specs.declared.setup.Cells.{Cells}
 use Rattle.prepare.specs.Checks.{lengthCheck, lengthsCheck, paddingCheck, traceCheck, tableCheck, checkRead, evaluateCheck}
-use Rattle.passes.specs.Mirror.{functionsOf, totalOf}
-use Rattle.prepare.specs.Settled.{Settled, lengthsOf, headsOf}
+use Rattle.passes.specs.Mirror.{headsOf, functionsOf, totalOf}
+use Rattle.prepare.specs.Settled.{Settled, lengthsOf}
 use Rattle.passes.proofs.SetupLoops.{functions-of, total-of}
 use Rattle.passes.proofs.FunctionsMeaning.{total-means}
 use Rattle.passes.proofs.SetupMeaning.{lengths-are}
@@ -74,11 +74,11 @@ length-passed n size e =
     (ltb-false mostSamples n (h .0), eqb-true size (bytesFor n) (not-false (eqb size (bytesFor n)) (h .1)))
 
 -- both traces have at most 4,095 samples, and the bytes that these take
-pub record Long (h : Handed) : Type 0 where
+pub record Sized (h : Handed) : Type 0 where
   pub few : (h .n ≤ mostSamples) × (h .m ≤ mostSamples)
   pub packed : (length (h .ram) ≡ bytesFor (h .n)) × (length (h .guard) ≡ bytesFor (h .m))
 
-pub lengths-passed : (h : Handed) {c : Check} → c ≡ lengthsCheck h → c ≡ Passed → Long h
+pub lengths-passed : (h : Handed) {c : Check} → c ≡ lengthsCheck h → c ≡ Passed → Sized h
 lengths-passed h e q =
     let both = then-passed (lengthCheck (h .n) (length (h .ram))) _ (sym e ∙ q) in
     let ram = length-passed (h .n) (length (h .ram)) (both .0) in
@@ -100,7 +100,7 @@ module _ {bytes : List ℕ} {s : Sort} {P : Program} (a : Accepted bytes s P) wh
   functions-few e = rw (outline-is e) (a .few)
 
 module _ {bytes : List ℕ} (h : Handed) {P : Program} (a : Accepted bytes (h .sort) P) {outline : Outline}
-    (l : outline ≡ outlineFrom (programSort bytes) (programFor (Only (h .sort)) bytes)) (long : Long h) {places : Cells}
+    (l : outline ≡ outlineFrom (programSort bytes) (programFor (Only (h .sort)) bytes)) (long : Sized h) {places : Cells}
     (f : places .functions ≡ functionsOf (headsOf outline) (lengthsOf h) (outline .functions))
     (s : places .total ≡ totalOf (headsOf outline) (lengthsOf h) (outline .functions)) where
   pub total-is : places .total ≡ cells (samplesOf h) P
@@ -133,13 +133,13 @@ module _ {bytes : List ℕ} (h : Handed) {P : Program} (a : Accepted bytes (h .s
 abbrev Clean : Handed → Type 0
 Clean h = (paddingSet (h .ram) (h .n) ≡ false) × (paddingSet (h .guard) (h .m) ≡ false)
 
-pub trace-passed : (h : Handed) → traceCheck h ≡ Passed → Long h × Clean h
+pub trace-passed : (h : Handed) → traceCheck h ≡ Passed → Sized h × Clean h
 trace-passed h e =
     let both = then-passed (lengthsCheck h) _ e in
     let clean = either-passed (paddingSet (h .ram) (h .n)) (paddingSet (h .guard) (h .m)) _ (both .1) in
     (lengths-passed h refl (both .0), clean)
 
-pub trace-passes : (h : Handed) → Long h → Clean h → traceCheck h ≡ Passed
+pub trace-passes : (h : Handed) → Sized h → Clean h → traceCheck h ≡ Passed
 trace-passes h long clean =
     rw (
       le-ltb mostSamples (h .n) (long .few .0),

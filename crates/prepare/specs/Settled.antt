@@ -14,15 +14,11 @@ use Rattle.rule.specs.Form.{Accepted}
 use Rattle.rule.specs.Outline.{outlineOf}
 use Rattle.codes.specs.declared.Lengths.{Lengths}
 use Rattle.passes.specs.declared.setup.Cells.{Cells}
-use Rattle.passes.specs.Mirror.{Heads, heads, functionsUpto, functionsOf, totalOf}
+use Rattle.passes.specs.Mirror.{headsOf, functionsUpto, functionsOf, totalOf}
 
 -- the lengths of the traces
 abbrev pub lengthsOf : Handed → Lengths
 lengthsOf h = record { ram = h .n; guard = h .m }
-
--- what the headers of a program say
-abbrev pub headsOf : Outline → Heads
-headsOf o = heads (o .kinds) (o .guards) (o .params)
 
 pub record Settled (bytes : List ℕ) (h : Handed) (outline : Outline) (places : Cells) (lent : ℕ) : Type 0 where
   pub program : Program

@@ -6,7 +6,7 @@
 --   written-agrees         and checking it answers agrees
 use mathlib.Core.Path.{_≡_, refl, ap, _∙_}
 use mathlib.Core.Bool.{true, false}
-use mathlib.Core.List.{List, [], _++_}
+use mathlib.Core.List.{List, _++_}
 use mathlib.Core.Option.{Option, none, some}
 use Prim.Native.Nat.{ℕ, suc, _^_, _<_, _≤_}
 use native.Mathlib.Omega.{arith}
@@ -21,7 +21,7 @@ use Rattle.semantics.specs.declared.Sort.{Sort}
 use Rattle.semantics.specs.declared.Sort.the-variants.{One, Two}
 use Rattle.semantics.specs.declared.Outcome.{Outcome}
 use Rattle.semantics.specs.declared.Verdict.{Verdict}
-use Rattle.semantics.specs.Language.{truth, Program, Traces}
+use Rattle.semantics.specs.Language.{truth, Program, Traces, noTraces}
 use Rattle.semantics.specs.Handed.{Handed, samplesOf}
 use Rattle.semantics.specs.Numbering.{cells}
 use Rattle.semantics.specs.Cells.{outcomeIn}
@@ -34,7 +34,7 @@ use Rattle.rule.specs.Reading.{Parsed, got, checkFrom, programSort, programFor,
 use Rattle.rule.specs.Reading as reading
 use Rattle.rule.proofs.Programs.{passed-accepted, read-encoded, takes-only}
 use Rattle.prepare.specs.Checks.{traceCheck, tableCheck, checkRead, evaluateCheck}
-use Rattle.prepare.proofs.Preparing.{Long, read-own, trace-passed, table-passed}
+use Rattle.prepare.proofs.Preparing.{Sized, read-own, trace-passed, table-passed}
 use Rattle.layout.specs.declared.Format.{Format}
 use Rattle.layout.specs.Form.{formatSort, Contents, formatFor, formatOf, guardSamples, tracesHeld, mostVerdict, layout, LabelFits, Stated}
 use Rattle.layout.specs.Trailer.{contentsIn}
@@ -50,10 +50,7 @@ use Rattle.record.proofs.Inverse.{layout-passed, read-back}
 
 -- ---- The verdict
 
--- it is read off a cell of a Bool, whatever the traces
-abbrev noTraces : Traces
-noTraces = record { ofRam = []; ofGuard = [] }
-
+-- it is read off a cell of a Bool
 verdict-small : (cell : ℕ) → verdictNumber (mainDecision cell) ≤ mostVerdict
 unfolding mainDecision
 verdict-small cell = go (outcomeIn noTraces truth cell) refl
@@ -87,7 +84,7 @@ module _ (h : Handed) where
 record Seen (program : List ℕ) (h : Handed) (lent : ℕ) : Type 0 where
   P : Program
   accepted : Accepted program (h .sort) P
-  long : Long h
+  long : Sized h
   clean : (paddingSet (h .ram) (h .n) ≡ false) × (paddingSet (h .guard) (h .m) ≡ false)
   table : tableCheck (cells (samplesOf h) P) lent ≡ check.Passed
   fits : suc (cells (samplesOf h) P) < 256 ^ 4
@@ -119,7 +116,7 @@ module _ (program : List ℕ) (h : Handed) (lent room : ℕ) (are : AreBytes pro
   unfolding writeCheck
   evaluated = seen program h lent are (then-passed _ _ e .0)
 
-  pub traces-long : Long h
+  pub traces-long : Sized h
   traces-long = evaluated .long
 
   abbrev v : Verdict

@@ -32,7 +32,7 @@ use Rattle.syntax.specs.Limits.{mostParams, mostBytes}
 use Rattle.syntax.specs.Bytes.{nodeOf}
 use Rattle.syntax.specs.Kinds.{truthKind, kindNumber, kindBy}
 use Rattle.rule.specs.Reading.{Parsed, got, refused, onward, unlessFault, kindAt, kindsFrom, resultKind, demanded, Reader, argsFrom, guardEmptyFrom, paramFrom, callFrom, opFrom, ifFrom, nodeFrom, exprFrom}
-use Rattle.rule.specs.Walk.{demandNumber, meets, kindOf, atMostFour, firstStop, stop, ended, ofDemand, leafWalked, paramWalked, guardEmptyWalked, Frame, contactsOf}
+use Rattle.rule.specs.Walk.{demandNumber, meets, kindOf, atMostFour, firstStop, stop, ended, whereMet, leafWalked, paramWalked, guardEmptyWalked, Frame, contactsOf}
 use Rattle.rule.specs.Walk.{argsWalked, armsWalked, callWalked, readWalked, tailWalked, nodeWalked, checkAt}
 use Rattle.rule.proofs.Expressions.{place-below}
 use Rattle.rule.proofs.Walking.{check-stays}
@@ -127,7 +127,7 @@ module _ {body : List ℕ} where
   step-banned false s = s
 
   step-demanded : {A : Type 0} {w : ℕ} {p : Parsed A} (δ : Demand) (κ : Kind) → Step body w p
-      → Step body (ofDemand (demandNumber δ) (kindNumber κ) w) (demanded δ κ p)
+      → Step body (whereMet (demandNumber δ) (kindNumber κ) w) (demanded δ κ p)
   step-demanded δ κ s = rw (meets-allows δ κ) (step-allowed (allows δ κ) s)
 
   -- a leaf

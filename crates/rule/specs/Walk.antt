@@ -56,12 +56,12 @@ stop f = firstStop + numberOf f
 abbrev pub ended : ℕ → ℕ
 ended at = cond (ltb at firstStop) (stop BodyEnds) at
 
--- a node of a kind at a place that demands something
-abbrev pub ofDemand : ℕ → ℕ → ℕ → ℕ
-ofDemand demand kind w = cond (meets demand kind) w (stop WrongKind)
+-- what comes of a node of a kind, where it meets the demand of its place
+abbrev pub whereMet : ℕ → ℕ → ℕ → ℕ
+whereMet demand kind w = cond (meets demand kind) w (stop WrongKind)
 
 unfoldable pub leafWalked : ℕ → ℕ → ℕ → ℕ
-leafWalked demand kind next = ofDemand demand kind next
+leafWalked demand kind next = whereMet demand kind next
 
 unfoldable pub paramWalked : ℕ → ℕ → ℕ → ℕ → ℕ → ℕ → ℕ
 paramWalked count kinds guard demand i next = cond (ltb i count) (leafWalked demand (kindOf kinds guard i) next) (stop UnknownByte)
@@ -154,11 +154,11 @@ callWalked F walk demand at g =
     let kinds = getD (F .kinds) g 0 in
     let guard = getD (F .guards) g 0 in
     cond (leb (F .functions) g) (stop UnknownByte)
-    (ofDemand demand (kindOf kinds guard 4) (argsWalked walk kinds guard (atMostFour (getD (F .params) g 0)) 0 at))
+    (whereMet demand (kindOf kinds guard 4) (argsWalked walk kinds guard (atMostFour (getD (F .params) g 0)) 0 at))
 
 -- hd or null: a Bool, of a list of either contact
 abbrev pub readWalked : (ℕ → ℕ → ℕ) → ℕ → ℕ → ℕ
-readWalked walk demand at = ofDemand demand truthKind (walk anyListDemand at)
+readWalked walk demand at = whereMet demand truthKind (walk anyListDemand at)
 
 -- tl: a list of the contact that is demanded
 abbrev pub tailWalked : (ℕ → ℕ → ℕ) → ℕ → ℕ → ℕ

@@ -77,6 +77,10 @@ pub record Traces : Type 0 where
   pub ofRam : Trace
   pub ofGuard : Trace
 
+-- no sample of either
+abbrev pub noTraces : Traces
+noTraces = record { ofRam = []; ofGuard = [] }
+
 -- the trace that a list is of
 abbrev pub traceOf : Traces → Contact → Trace
 traceOf t Ram = t .ofRam

@@ -7,7 +7,7 @@ use Rattle.semantics.specs.declared.Outcome.{Outcome}
 use Rattle.semantics.specs.declared.Decision.{Decision}
 use Rattle.semantics.specs.declared.Decision.the-variants.{Forever, Decided}
 use Rattle.semantics.specs.declared.Verdict.{Verdict}
-use Rattle.semantics.specs.Language.{truth, Program, Traces}
+use Rattle.semantics.specs.Language.{truth, Program, Traces, noTraces}
 use Rattle.semantics.specs.Numbering.{size}
 use Rattle.semantics.specs.Cells.{codeOf, outcomeIn}
 use Rattle.semantics.specs.Passes.{passCount, finalTable}
@@ -25,9 +25,9 @@ verdictNumber (Decided o) = codeOf o
 abbrev pub verdictValues : Verdict → List ℕ
 verdictValues v = verdictNumber (v .decision) ∷ v .passes ∷ []
 
--- what main's cell decides: main gives a Bool
+-- what main's cell decides: main gives a Bool, whose number says nothing of traces
 unfoldable pub mainDecision : ℕ → Decision
-mainDecision cell = decisionOf (outcomeIn (record { ofRam = []; ofGuard = [] }) truth cell)
+mainDecision cell = decisionOf (outcomeIn noTraces truth cell)
 
 -- 'main's cell on the whole trace is cell n'; 'on both whole traces [it] is the last of main's cells'
 abbrev pub mainCell : Traces → Program → ℕ

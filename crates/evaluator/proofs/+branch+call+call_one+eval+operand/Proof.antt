@@ -17,7 +17,6 @@ use Rattle.evaluator.proofs.+branch+call+call_one+eval+operand.Lts-eval
 use Rattle.evaluator.proofs.operand.Reads as operand
 use Rattle.evaluator.proofs.operand.Kinds as operand-kinds
 use Rattle.evaluator.proofs.+branch+call+call_one+eval+operand.Lts-operand as operand-lts
-use Rattle.codes.proofs.guarded.Reads as guarded-reads
 use Rattle.codes.proofs.head.Reads as head-reads
 use Rattle.codes.proofs.null.Reads as null-reads
 use Rattle.codes.proofs.tail.Reads as tail-reads
@@ -32,6 +31,7 @@ use Rattle.decoding.proofs.nodes.second.Reads as second-reads
 use Rattle.decoding.proofs.nodes.sort.Reads as sort-reads
 use Rattle.decoding.proofs.nodes.third.Reads as third-reads
 use Rattle.evaluator.proofs.digit.Reads as digit-reads
+use Rattle.evaluator.proofs.found.Reads as found-reads
 use Rattle.evaluator.proofs.lookup.Reads as lookup-reads
 use Rattle.evaluator.proofs.next_index.Reads as next-index-reads
 use Rattle.evaluator.proofs.param.Reads as param-reads
@@ -39,11 +39,13 @@ use Rattle.evaluator.proofs.+branch+call+call_one+eval+operand.{stateme
 use Rattle.evaluator.proofs.+branch+call+call_one+eval+operand.Tie.{close}
 use Prim.Native.Nat.{_+_, _-_, _*_}
 use mathlib.Core.Path.{_≡_, sym, ap, _∙_}
+use mathlib.Core.Logic.{inl, inr, ⊎-elim}
 use native.Mathlib.Omega.{arith}
 use borrow.Author.Needs.{needs}
+use Rattle.codes.specs.{guardedCode}
 use Rattle.decoding.specs.Words.{calleeOf, placesOf}
 use Rattle.evaluator.specs.{sortBy, evalWord, evalAt, branchAt, callAt, callOneAt}
-use Rattle.evaluator.proofs.EvalWays.{apart-above, eval-deep, eval-sort, eval-other, branch-true, branch-false, branch-other, Along, along-start, along-end, along-stop, along-more, not-below, function-at, param-at, first-param-at, args-count, one-stop, one-found, next-index-is, lookup-is}
+use Rattle.evaluator.proofs.EvalWays.{apart-above, eval-deep, eval-sort, eval-other, branch-true, branch-false, branch-other, Along, along-start, along-end, along-stop, along-more, not-below, function-at, param-at, first-param-at, args-count, found-plain, found-guard, one-stop, one-found, next-index-is, lookup-is}
 
 abbrev μ-branch : Measures 5 branch-kinds.ps ℕ
 μ-branch κs a = a .1 .1 .1 .1 .0 * 4 + 1
@@ -163,10 +165,10 @@ eval-claims t = (
   branch.Post,
   call-below t,
   call.Post,
+  found-reads.Asked,
+  found-reads.Learnt,
   call-one-below t,
   call-one.Post,
-  guarded-reads.Asked,
-  guarded-reads.Learnt,
 )
 
 abbrev operand-claims : ℕ → operand-lts.Claims
@@ -475,14 +477,11 @@ eval-branch-requires-4 t c κs = (omega arith, tt)
 eval-call-requires : (t : ℕ) → eval-lts.Need-call-requires (eval-claims t) (eval-at t) eval.Post
 eval-call-requires t c κs = (omega arith, tt)
 
+eval-found-requires : (t : ℕ) → eval-lts.Need-found-requires (eval-claims t) (eval-at t) eval.Post
+eval-found-requires t c κs = search needs
+
 eval-call-one-requires : (t : ℕ) → eval-lts.Need-call-one-requires (eval-claims t) (eval-at t) eval.Post
 eval-call-one-requires t c κs = (omega arith, tt)
-
-eval-call-requires-2 : (t : ℕ) → eval-lts.Need-call-requires-2 (eval-claims t) (eval-at t) eval.Post
-eval-call-requires-2 t c κs = (omega arith, tt)
-
-eval-guarded-requires : (t : ℕ) → eval-lts.Need-guarded-requires (eval-claims t) (eval-at t) eval.Post
-eval-guarded-requires t c κs = search needs
 
 eval-returns-2 : (t : ℕ) → eval-lts.Need-returns-2 (eval-claims t) (eval-at t) eval.Post
 eval-returns-2 t c = c .constant .ensures ∙ sym (at-sort t (c .before .before) 0 (c .before .match .keys1))
@@ -526,21 +525,29 @@ eval-returns-13 t c = (rw (c .before .head3 .ensures, c .before .before .param7 
 
 eval-returns-14 : (t : ℕ) → eval-lts.Need-returns-14 (eval-claims t) (eval-at t) eval.Post
 unfolding callAt
-eval-returns-14 t c = c .call .ensures ∙ sym (at-sort t (c .before .before) 12 (c .before .match .keys13))
+eval-returns-14 t c =
+    let sorted = c .before .before .before in
+    let number = c .before .call .result in
+    ⊎-elim
+    (λ e. found-plain number e (c .found .ensures) ∙ c .before .call .ensures ∙ sym (at-sort t sorted 12 e))
+    (λ e. found-guard number e (c .found .ensures) ∙ ap (λ (x : ℕ). guardedCode x) (c .before .call .ensures) ∙ sym (at-sort t sorted 14 e))
+    (c .before .before .match .keys13)
 
 eval-returns-15 : (t : ℕ) → eval-lts.Need-returns-15 (eval-claims t) (eval-at t) eval.Post
 unfolding callOneAt
 eval-returns-15 t c = c .call-one .ensures ∙ sym (at-sort t (c .before .before) 13 (c .before .match .keys14))
 
 eval-returns-16 : (t : ℕ) → eval-lts.Need-returns-16 (eval-claims t) (eval-at t) eval.Post
-unfolding callAt
-eval-returns-16 t c = (rw (c .before .call2 .ensures) at (c .guarded .ensures)) ∙ sym (at-sort t (c .before .before .before) 14 (c .before .before .match .keys15))
+eval-returns-16 t c = sym (at-sort t (c .before) 15 (c .match .keys15))
 
 eval-returns-17 : (t : ℕ) → eval-lts.Need-returns-17 (eval-claims t) (eval-at t) eval.Post
-eval-returns-17 t c = sym (at-sort t (c .before) 15 (c .match .keys16))
-
-eval-returns-18 : (t : ℕ) → eval-lts.Need-returns-18 (eval-claims t) (eval-at t) eval.Post
-eval-returns-18 t c = sym (eval-other _ _ _ _ _ _ (c .before .before .if1 .left) (c .before .sort .ensures) (omega (arith, apart-above 16 _ (c .match .rest))))
+eval-returns-17 t c =
+    let rest = c .match .rest in
+    let others = apart-above 12 _ (rest .0 .0 .0) in
+    let call : c .before .sort .result ≡ 12 → ⊥ = λ e. rest .0 .0 .1 (inl e) in
+    let guard : c .before .sort .result ≡ 14 → ⊥ = λ e. rest .0 .0 .1 (inr e) in
+    let one = rest .0 .1 in
+    sym (eval-other _ _ _ _ _ _ (c .before .before .if1 .left) (c .before .sort .ensures) (omega arith))
 
 operand-returns : (t : ℕ) → operand-lts.Need-returns (operand-claims t) (operand-at t) operand.Post
 operand-returns t c = sym (eval-deep _ _ _ _ _ _ (c .if1 .taken))
@@ -672,9 +679,8 @@ pub +branch+call+call-one+eval+operand-spec : {M : Type 1} → statement M
     (eval-head-requires-3 t)
     (eval-branch-requires-4 t)
     (eval-call-requires t)
+    (eval-found-requires t)
     (eval-call-one-requires t)
-    (eval-call-requires-2 t)
-    (eval-guarded-requires t)
     (eval-returns-2 t)
     (eval-returns-3 t)
     (eval-returns-4 t)
@@ -690,8 +696,7 @@ pub +branch+call+call-one+eval+operand-spec : {M : Type 1} → statement M
     (eval-returns-14 t)
     (eval-returns-15 t)
     (eval-returns-16 t)
-    (eval-returns-17 t)
-    (eval-returns-18 t))
+    (eval-returns-17 t))
     λ t. operand-lts.spec (operand-claims t)
     (operand-at t)
     operand.Post

@@ -4,7 +4,7 @@ use Prim.Native.Nat.{_-_, _<_, _≤_}
 use native.Mathlib.Omega.{arith}
 use borrow.Author.Needs.{needs}
 use Rattle.syntax.specs.Limits.{mostParams}
-use Rattle.passes.specs.Mirror.{setup, kindsOf, countOf, sizeFrom, sizeOf, rowWidth}
+use Rattle.passes.specs.Mirror.{setup, signatureIn, countOf, sizeFrom, sizeOf, rowWidth}
 use Rattle.passes.proofs.Rows.{size-most}
 use Rattle.passes.proofs.PassWays.{stores-le, visited-length, visited-few, visited-row}
 use Rattle.passes.proofs.RowLoop.{Stepping, stepping-start, stepping-inside, stepping-ready, stepping-more, stepping-end}
@@ -12,21 +12,21 @@ use Rattle.passes.proofs.pass_function.Statement.{statement}
 use Rattle.passes.proofs.pass_function.Tie as tie
 
 abbrev Inv-loop : tie.InvT-loop
-Inv-loop words traces functions table₀ n g body kinds count others rows width env₀ stored₀ base₀ r₀ table env stored base r =
+Inv-loop words traces functions table₀ n g body signature count others rows width env₀ stored₀ base₀ r₀ table env stored base r =
     Stepping (setup words functions traces) n g body table₀ table env stored base r
 
 abbrev μ-loop : tie.MeasureT-loop
-μ-loop words traces functions table₀ n g body kinds count others rows width env₀ stored₀ base₀ r₀ table env stored base r = rows - r
+μ-loop words traces functions table₀ n g body signature count others rows width env₀ stored₀ base₀ r₀ table env stored base r = rows - r
 
 rows-is : (c : tie.After-size Inv-loop μ-loop) → let a = c .before .before .before .before .before .args in
-    c .size .result ≡ sizeFrom (kindsOf (a .functions .now) (a .g)) (a .n) 0 (countOf (a .functions .now) (a .g) - 1)
+    c .size .result ≡ sizeFrom (signatureIn (a .functions .now) (a .g)) (a .n) 0 (countOf (a .functions .now) (a .g) - 1)
 rows-is c = rw (c .before .last .ensures, c .before .before .count .ensures .0) at (c .size .ensures .0)
 
 others-is : (c : tie.After-last Inv-loop μ-loop) → let a = c .before .before .before .before .args in c .last .result ≡ countOf (a .functions .now) (a .g) - 1
 others-is c = rw (c .before .count .ensures .0) at (c .last .ensures)
 
 width-is : (c : tie.After-row-width Inv-loop μ-loop) → let a = c .before .before .before .before .before .before .args in
-    c .row-width .result ≡ rowWidth (kindsOf (a .functions .now) (a .g)) (a .n) (countOf (a .functions .now) (a .g))
+    c .row-width .result ≡ rowWidth (signatureIn (a .functions .now) (a .g)) (a .n) (countOf (a .functions .now) (a .g))
 width-is c = rw (c .before .before .before .count .ensures .0) at (c .row-width .ensures)
 
 narrow : (c : tie.After-count Inv-loop μ-loop) → let a = c .before .before .before .args in countOf (a .functions .now) (a .g) ≤ mostParams
@@ -34,17 +34,17 @@ narrow c = rw (c .count .ensures .0) at (c .count .ensures .1)
 
 -- there is a row left
 in-rows : (c : tie.In-loop Inv-loop μ-loop) → let a = c .before .before .before .before .before .before .before .before .before .before .before .before .args in
-    c .before .loop .r < sizeFrom (kindsOf (a .functions .now) (a .g)) (a .n) 0 (countOf (a .functions .now) (a .g) - 1)
+    c .before .loop .r < sizeFrom (signatureIn (a .functions .now) (a .g)) (a .n) 0 (countOf (a .functions .now) (a .g) - 1)
 in-rows c = rw (rows-is (c .before .before .before .before .before .before .before)) at (c .loop-test .taken)
 
-add-kinds : tie.Need-add-kinds Inv-loop μ-loop
-add-kinds c = search needs
+add-signature : tie.Need-add-signature Inv-loop μ-loop
+add-signature c = search needs
 
-mul-kinds : tie.Need-mul-kinds Inv-loop μ-loop
-mul-kinds c = search needs
+mul-signature : tie.Need-mul-signature Inv-loop μ-loop
+mul-signature c = search needs
 
-element-copy-out-kinds : tie.Need-element-copy-out-kinds Inv-loop μ-loop
-element-copy-out-kinds c = search needs
+element-copy-out-signature : tie.Need-element-copy-out-signature Inv-loop μ-loop
+element-copy-out-signature c = search needs
 
 count-requires : tie.Need-count-requires Inv-loop μ-loop
 count-requires c κs = c .before .before .pre .below
@@ -119,7 +119,7 @@ returns c =
     let few = narrow (c .before .before .before .before .before .before .before .before .before) in
     let all = rw (rows-is (c .before .before .before .before .before .before .before)) at (c .loop-test .left) in
     let v = stepping-end _ _ _ _ _ (begun .pre) few (c .before .loop .inv) all in
-    let most = size-most (kindsOf (a .functions .now) (a .g)) (a .n) (begun .pre .samples) (countOf (a .functions .now) (a .g)) few in
+    let most = size-most (signatureIn (a .functions .now) (a .g)) (a .n) (begun .pre .samples) (countOf (a .functions .now) (a .g)) few in
     (v .0, (v .1, omega (arith, v .1, most, stores-le S (a .n) (a .g) (a .body) 0 (a .table .now) (sizeOf (a .functions .now) (a .n) (a .g)))))
 
 pub pass-function-spec : {M : Type 1} → statement M
@@ -128,9 +128,9 @@ pass-function-spec =
     (tie.spec
     Inv-loop
     μ-loop
-    add-kinds
-    mul-kinds
-    element-copy-out-kinds
+    add-signature
+    mul-signature
+    element-copy-out-signature
     count-requires
     last-requires
     size-requires

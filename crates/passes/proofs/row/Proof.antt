@@ -9,7 +9,7 @@ use lib.ListN.{length, getD, set}
 use lib.Seq.{set-set}
 use borrow.Author.Needs.{needs}
 use Rattle.codes.specs.declared.Lengths.{Lengths}
-use Rattle.passes.specs.Mirror.{setup, firstOf, kindsOf, countOf, envAt, rowWidth, rowLowest, RowReady, SameOthers}
+use Rattle.passes.specs.Mirror.{setup, firstOf, signatureIn, countOf, envAt, rowWidth, rowLowest, RowReady, SameOthers}
 use Rattle.passes.proofs.Rows.{width-bound, lowest-bound}
 use Rattle.passes.proofs.PassWays.{Visited, visited-start, visited-length, visited-few, visited-kept, visited-open, visited-end}
 use Rattle.passes.proofs.row.Statement.{statement}
@@ -17,21 +17,21 @@ use Rattle.passes.proofs.row.Tie as tie
 
 -- whatever lengths the row is of: they are worked with no more once its width is known
 abbrev Inv-loop : tie.InvT-loop
-Inv-loop words traces functions table₀ env₀ g body base kinds count function slot lowest width start stored₀ d₀ table env stored d =
-    ((n : Lengths) → RowReady functions n g (length table₀) base env₀ → width ≡ rowWidth (kindsOf functions g) n (countOf functions g)
+Inv-loop words traces functions table₀ env₀ g body base signature count function slot lowest width start stored₀ d₀ table env stored d =
+    ((n : Lengths) → RowReady functions n g (length table₀) base env₀ → width ≡ rowWidth (signatureIn functions g) n (countOf functions g)
     → Visited (setup words functions traces) n g body base table₀ table stored d)
     × (d ≤ width)
     × SameOthers slot env₀ env
 
 abbrev μ-loop : tie.MeasureT-loop
-μ-loop words traces functions table₀ env₀ g body base kinds count function slot lowest width start stored₀ d₀ table env stored d = width - d
+μ-loop words traces functions table₀ env₀ g body base signature count function slot lowest width start stored₀ d₀ table env stored d = width - d
 
 wide-is : (c : tie.After-row-width Inv-loop μ-loop) → let a = c .before .before .before .before .before .before .before .args in
-    c .row-width .result ≡ rowWidth (kindsOf (a .functions .now) (a .g)) (a .n) (countOf (a .functions .now) (a .g))
+    c .row-width .result ≡ rowWidth (signatureIn (a .functions .now) (a .g)) (a .n) (countOf (a .functions .now) (a .g))
 wide-is c = rw (c .before .before .before .before .count .ensures .0) at (c .row-width .ensures)
 
 lowest-is : (c : tie.After-row-lowest Inv-loop μ-loop) → let a = c .before .before .before .before .before .before .args in
-    c .row-lowest .result ≡ rowLowest (kindsOf (a .functions .now) (a .g)) (countOf (a .functions .now) (a .g))
+    c .row-lowest .result ≡ rowLowest (signatureIn (a .functions .now) (a .g)) (countOf (a .functions .now) (a .g))
 lowest-is c = rw (c .before .before .before .count .ensures .0) at (c .row-lowest .ensures)
 
 slot-is : (c : tie.After-last Inv-loop μ-loop) → let a = c .before .before .before .before .before .args in c .last .result ≡ countOf (a .functions .now) (a .g) - 1
@@ -58,35 +58,35 @@ within c =
 small : (c : tie.In-loop Inv-loop μ-loop) → c .before .before .before .before .row-lowest .result + c .before .loop .d < 65536
 small c =
     let s = c .before .before .before .before .before .before .before .before .before .before in
-    let kinds = kindsOf (s .args .functions .now) (s .args .g) in
+    let signature = signatureIn (s .args .functions .now) (s .args .g) in
     let count = countOf (s .args .functions .now) (s .args .g) in
     omega (
       arith,
       lowest-is (c .before .before .before .before),
-      lowest-bound kinds count,
+      lowest-bound signature count,
       wide-is (c .before .before .before),
-      width-bound kinds (s .args .n) (s .pre .ready .samples) count,
+      width-bound signature (s .args .n) (s .pre .ready .samples) count,
       c .loop-test .taken,
     )
 
 -- the values are those of the configuration
 values-here : (c : tie.In-loop Inv-loop μ-loop) → let a = c .before .before .before .before .before .before .before .before .before .before .args in
     (n : Lengths) → RowReady (a .functions .now) n (a .g) (length (a .table .now)) (a .base) (a .env .now)
-    → c .before .before .before .row-width .result ≡ rowWidth (kindsOf (a .functions .now) (a .g)) n (countOf (a .functions .now) (a .g))
+    → c .before .before .before .row-width .result ≡ rowWidth (signatureIn (a .functions .now) (a .g)) n (countOf (a .functions .now) (a .g))
     → set (c .before .loop .env) (c .before .before .before .before .before .last .result) (c .before .before .before .before .row-lowest .result + c .before .loop .d)
     ≡ envAt (a .functions .now) n (a .g) (a .base + c .before .loop .d)
 values-here c n r w =
     c .before .loop .inv .2 (c .before .before .before .before .row-lowest .result + c .before .loop .d)
     ∙ rw (slot-is (c .before .before .before .before .before), lowest-is (c .before .before .before .before)) (r .values (c .before .loop .d) (omega (arith, w, c .loop-test .taken)))
 
-add-kinds : tie.Need-add-kinds Inv-loop μ-loop
-add-kinds c = search needs
+add-signature : tie.Need-add-signature Inv-loop μ-loop
+add-signature c = search needs
 
-mul-kinds : tie.Need-mul-kinds Inv-loop μ-loop
-mul-kinds c = search needs
+mul-signature : tie.Need-mul-signature Inv-loop μ-loop
+mul-signature c = search needs
 
-element-copy-out-kinds : tie.Need-element-copy-out-kinds Inv-loop μ-loop
-element-copy-out-kinds c = search needs
+element-copy-out-signature : tie.Need-element-copy-out-signature Inv-loop μ-loop
+element-copy-out-signature c = search needs
 
 count-requires : tie.Need-count-requires Inv-loop μ-loop
 count-requires c κs = c .before .before .pre .ready .below
@@ -184,9 +184,9 @@ row-spec =
     (tie.spec
     Inv-loop
     μ-loop
-    add-kinds
-    mul-kinds
-    element-copy-out-kinds
+    add-signature
+    mul-signature
+    element-copy-out-signature
     count-requires
     mul-function
     add-function

@@ -8,7 +8,7 @@ use Rattle.semantics.specs.Handed.{Handed, handed}
 use Rattle.rule.specs.declared.Sorts.the-variants.{Only}
 use Rattle.rule.specs.Form.{Accepted}
 use Rattle.rule.proofs.Programs.{passed-accepted, takes-only}
-use Rattle.prepare.proofs.Preparing.{program-refused, length-refused, rest-left, Long, lengths-passed, total-is, settled}
+use Rattle.prepare.proofs.Preparing.{program-refused, length-refused, rest-left, Sized, lengths-passed, total-is, settled}
 use borrow.Author.Needs.{needs}
 use Rattle.prepare.proofs.prepare.Statement.{statement}
 use Rattle.prepare.proofs.prepare.Tie as tie
@@ -28,7 +28,7 @@ accepted c =
     (w .0, rw (takes-only (start .args .sort) _ (w .2)) at (w .1))
 
 -- lengths that pass the check are those of traces
-long : (c : tie.After-guards) → Long (handedAt (c .before .before .before .before .before .before .before .before .before .before .before .before .before))
+long : (c : tie.After-guards) → Sized (handedAt (c .before .before .before .before .before .before .before .before .before .before .before .before .before))
 long c = lengths-passed (handedAt (c .before .before .before .before .before .before .before .before .before .before .before .before .before)) (c .before .before .before .before .before .lengths-check .ensures) (c .before .before .before .enum-told2 .given .1)
 
 check-sorts-requires : tie.Need-check-sorts-requires

@@ -11,7 +11,7 @@ use Rattle.semantics.specs.declared.Sort.the-variants.{One, Two}
 use Rattle.semantics.specs.Handed.{Handed, handed}
 use Rattle.rule.specs.Form.{AreBytes}
 use Rattle.prepare.specs.Checks.{evaluateCheck}
-use Rattle.prepare.proofs.Preparing.{Long}
+use Rattle.prepare.proofs.Preparing.{Sized}
 use Rattle.layout.specs.Form.{resultBytes}
 use Rattle.record.specs.Recording.{workedOut, recordOf, writeCheck}
 use Rattle.record.specs.Steps.{besideBytes}
@@ -83,7 +83,7 @@ are-bytes w i =
     let known = summed w .before .before .before .before .before .before in
     omega (arith, known .shared-slice-known .given i)
 
-long : (w : tie.After-verdict) → Long (traces (start w))
+long : (w : tie.After-verdict) → Sized (traces (start w))
 long w =
     let a = start w .args in
     traces-long (a .program .now) (traces (start w)) (length (a .table .now)) (length (a .out .now)) (are-bytes w) (passes w)

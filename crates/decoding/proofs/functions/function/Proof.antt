@@ -1,7 +1,7 @@
 -- `function` meets its contract: the parts fit into their bits.
 use native.Mathlib.Omega.{arith}
 use Rattle.decoding.specs.Words.{functionWord}
-use Rattle.decoding.proofs.Packing.{least-small}
+use Rattle.codes.proofs.Bounds.{least-small}
 use borrow.Author.Needs.{needs}
 use Rattle.decoding.proofs.functions.function.Statement.{statement}
 use Rattle.decoding.proofs.functions.function.Tie as tie

@@ -1,7 +1,7 @@
 -- `kind` meets its contract: the parts fit into their bits.
 use native.Mathlib.Omega.{arith}
 use Rattle.decoding.specs.Words.{kindWord}
-use Rattle.decoding.proofs.Packing.{lowest-small}
+use Rattle.codes.proofs.Bounds.{lowest-small}
 use borrow.Author.Needs.{needs}
 use Rattle.decoding.proofs.functions.kind.Statement.{statement}
 use Rattle.decoding.proofs.functions.kind.Tie as tie

@@ -6,10 +6,10 @@ use Rattle.passes.proofs.configurations.size.Statement.{statement}
 use Rattle.passes.proofs.configurations.size.Tie as tie
 
 abbrev Inv-loop : tie.InvT-loop
-Inv-loop kinds count n product₀ i₀ product i = Product kinds n count product i
+Inv-loop signature count n product₀ i₀ product i = Product signature n count product i
 
 abbrev μ-loop : tie.MeasureT-loop
-μ-loop kinds count n product₀ i₀ product i = i
+μ-loop signature count n product₀ i₀ product i = i
 
 loop-holds : tie.Need-loop-holds Inv-loop μ-loop
 loop-holds c = size-start _ _ _

@@ -4,16 +4,16 @@ use Prim.Native.Nat.{ℕ, _+_, _≤_}
 use native.Mathlib.Omega.{arith}
 use borrow.Author.Needs.{needs}
 use Rattle.passes.specs.Mirror.{stepped}
-use Rattle.passes.proofs.SetupLoops.{radix-bound, lowest-small}
+use Rattle.codes.proofs.Bounds.{radix-small, lowest-small}
 use Rattle.passes.proofs.Rows.{step-stops, step-goes, step-whole}
 use Rattle.passes.proofs.configurations.step.Statement.{statement}
 use Rattle.passes.proofs.configurations.step.Tie as tie
 
 abbrev Inv-loop : tie.InvT-loop
-Inv-loop kinds count n env₀ i₀ env i = (i ≤ count) × (stepped kinds n count env₀ ≡ stepped kinds n i env)
+Inv-loop signature count n env₀ i₀ env i = (i ≤ count) × (stepped signature n count env₀ ≡ stepped signature n i env)
 
 abbrev μ-loop : tie.MeasureT-loop
-μ-loop kinds count n env₀ i₀ env i = i
+μ-loop signature count n env₀ i₀ env i = i
 
 loop-holds : tie.Need-loop-holds Inv-loop μ-loop
 loop-holds c = (omega arith, refl)
@@ -43,10 +43,10 @@ radix-requires : tie.Need-radix-requires Inv-loop μ-loop
 radix-requires c κs = search needs
 
 add-if1 : tie.Need-add-if1 Inv-loop μ-loop
-add-if1 c = omega (arith, lowest-small (c .before .before .before .before .kind-at .result), c .before .before .before .lowest .ensures, radix-bound (c .before .before .before .before .kind-at .result) _ (c .before .before .before .before .before .before .before .pre .1), c .radix .ensures)
+add-if1 c = omega (arith, lowest-small (c .before .before .before .before .kind-at .result), c .before .before .before .lowest .ensures, radix-small (c .before .before .before .before .kind-at .result) _ (c .before .before .before .before .before .before .before .pre .1), c .radix .ensures)
 
 cast-env : tie.Need-cast-env Inv-loop μ-loop
-cast-env c = omega (arith, c .if1 .taken, lowest-small (c .before .before .before .before .before .kind-at .result), c .before .before .before .before .lowest .ensures, radix-bound (c .before .before .before .before .before .kind-at .result) _ (c .before .before .before .before .before .before .before .before .pre .1), c .before .radix .ensures)
+cast-env c = omega (arith, c .if1 .taken, lowest-small (c .before .before .before .before .before .kind-at .result), c .before .before .before .before .lowest .ensures, radix-small (c .before .before .before .before .before .kind-at .result) _ (c .before .before .before .before .before .before .before .before .pre .1), c .before .radix .ensures)
 
 mul-env : tie.Need-mul-env Inv-loop μ-loop
 mul-env c = omega arith
@@ -60,7 +60,7 @@ returns c =
     (ap (λ (v : ℕ). v + 1) (c .before .before .wide .ensures .0)) (c .if1 .taken) (c .before .before .before .before .before .before .before .loop .inv .1)
 
 cast-env-2 : tie.Need-cast-env-2 Inv-loop μ-loop
-cast-env-2 c = omega (arith, lowest-small (c .before .before .before .before .before .kind-at .result), c .before .before .before .before .lowest .ensures, radix-bound (c .before .before .before .before .before .kind-at .result) _ (c .before .before .before .before .before .before .before .before .pre .1), c .before .radix .ensures)
+cast-env-2 c = omega (arith, lowest-small (c .before .before .before .before .before .kind-at .result), c .before .before .before .before .lowest .ensures, radix-small (c .before .before .before .before .before .kind-at .result) _ (c .before .before .before .before .before .before .before .before .pre .1), c .before .radix .ensures)
 
 mul-env-2 : tie.Need-mul-env-2 Inv-loop μ-loop
 mul-env-2 c = omega arith

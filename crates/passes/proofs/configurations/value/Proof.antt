@@ -1,7 +1,7 @@
 -- `value` meets its contract: the sum fits.
 use native.Mathlib.Omega.{arith}
 use borrow.Author.Needs.{needs}
-use Rattle.passes.proofs.SetupLoops.{lowest-small}
+use Rattle.codes.proofs.Bounds.{lowest-small}
 use Rattle.passes.proofs.configurations.value.Statement.{statement}
 use Rattle.passes.proofs.configurations.value.Tie as tie
 

@@ -4,15 +4,16 @@ use Prim.Native.Nat.{_≤_}
 use native.Mathlib.Omega.{arith}
 use borrow.Author.Needs.{needs}
 use Rattle.passes.specs.Mirror.{valuesInto}
-use Rattle.passes.proofs.SetupLoops.{radix-pos, values-more, values-one, values-none}
+use Rattle.codes.proofs.Bounds.{radix-pos}
+use Rattle.passes.proofs.SetupLoops.{values-more, values-one, values-none}
 use Rattle.passes.proofs.configurations.values.Statement.{statement}
 use Rattle.passes.proofs.configurations.values.Tie as tie
 
 abbrev Inv-loop : tie.InvT-loop
-Inv-loop kinds count n index env₀ rest₀ i₀ env rest i = (i ≤ count) × (valuesInto kinds n count index env₀ ≡ valuesInto kinds n i rest env)
+Inv-loop signature count n index env₀ rest₀ i₀ env rest i = (i ≤ count) × (valuesInto signature n count index env₀ ≡ valuesInto signature n i rest env)
 
 abbrev μ-loop : tie.MeasureT-loop
-μ-loop kinds count n index env₀ rest₀ i₀ env rest i = i
+μ-loop signature count n index env₀ rest₀ i₀ env rest i = i
 
 loop-holds : tie.Need-loop-holds Inv-loop μ-loop
 loop-holds c = (omega arith, refl)

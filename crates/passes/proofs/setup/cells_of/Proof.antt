@@ -8,11 +8,11 @@ use Rattle.passes.proofs.setup.cells_of.Statement.{statement}
 use Rattle.passes.proofs.setup.cells_of.Tie as tie
 
 abbrev Inv-loop : tie.InvT-loop
-Inv-loop count params kinds guards functions₀ total₀ samples last g₀ functions total g =
-    (g ≤ last) × Listed (heads kinds guards params) samples functions total g
+Inv-loop count params kinds guards functions₀ total₀ lengths last g₀ functions total g =
+    (g ≤ last) × Listed (heads kinds guards params) lengths functions total g
 
 abbrev μ-loop : tie.MeasureT-loop
-μ-loop count params kinds guards functions₀ total₀ samples last g₀ functions total g = last - g
+μ-loop count params kinds guards functions₀ total₀ lengths last g₀ functions total g = last - g
 
 shortened-lengths-requires : tie.Need-shortened-lengths-requires Inv-loop μ-loop
 shortened-lengths-requires c κs = search needs
