@@ -6,11 +6,11 @@
 #include "common.h"
 
 /* The sorts of decoded nodes. The empty list of the guard, whose number no place holds, has a sort of its own; so have
- * hd, tl and null of a parameter, an if whose condition is a parameter or null or hd of one, and a call with one
- * argument. */
+ * hd, tl and null of a parameter, an if whose condition is a parameter or null or hd of one, a call of a function whose
+ * result is a list of the guard, and any other call with one argument. */
 enum {
     CONSTANT, EMPTY_GUARD, PARAM, HD, TL, NULL_, HD_PARAM, TL_PARAM, NULL_PARAM, IF, IF_PARAM, IF_NULL_PARAM,
-    IF_HD_PARAM, CALL, CALL_ONE
+    IF_HD_PARAM, CALL, CALL_ONE, CALL_GUARD
 };
 
 /* A node has its sort in bits 0 to 3, a small number in bits 8 to 15 and four places of 12 bits from bit 16 on. The
@@ -34,11 +34,9 @@ struct kind {
 };
 
 /* What a call asks of a function: its first cell in bits 0 to 31, then the least and the most number of an outcome of
- * its kind in 16 bits each; GUARD if its result is a list of the guard; and the kinds of its parameters. A function
- * without parameters has one of a single value. */
+ * its kind in 16 bits each; and the kinds of its parameters. A function without parameters has one of a single value. */
 struct called {
     uint64_t outcomes;
-    unsigned guard;
     struct kind param[MOST_PARAMS];
 };
 
@@ -71,11 +69,16 @@ static unsigned tail(unsigned v) { return v < EMPTY ? v : in_cell(v) == EMPTY ? 
 
 static unsigned null(unsigned v) { return v < EMPTY ? v : in_cell(v) == EMPTY ? TRUE_ : FALSE_; }
 
-/* The outcome in a cell of a function. */
+/* The outcome in a cell of a function, as it stands there. */
 static unsigned look_up(const struct decoded *d, const struct called *f, uint32_t index)
 {
-    const unsigned cell = held(f->outcomes, d->rule.table[first_cell(f->outcomes) + index]);
-    return cell >= EMPTY ? cell + f->guard : cell;
+    return held(f->outcomes, d->rule.table[first_cell(f->outcomes) + index]);
+}
+
+/* What a call gave, by what stands in the callee's cell. */
+static unsigned working(uint64_t node, unsigned cell)
+{
+    return sort(node) == CALL_GUARD && cell >= EMPTY ? cell + GUARD : cell;
 }
 
 static unsigned eval(const struct decoded *d, const uint16_t *env, uint64_t node);
@@ -135,7 +138,7 @@ static unsigned eval(const struct decoded *d, const uint16_t *env, uint64_t node
     case IF_PARAM: condition = env[param(node)]; break;
     case IF_NULL_PARAM: condition = null(env[param(node)]); break;
     case IF_HD_PARAM: condition = head(d, env[param(node)]); break;
-    case CALL: return call(d, env, node);
+    case CALL: case CALL_GUARD: return working(node, call(d, env, node));
     default: return call_one(d, env, node);
     }
     if (condition == TRUE_)
@@ -215,6 +218,12 @@ static uint64_t conditional(uint64_t condition)
     }
 }
 
+/* The sort of a call of a function. */
+static unsigned called_as(const struct function *f)
+{
+    return f->kind[RESULT] == GUARD_LIST ? CALL_GUARD : f->params == 1 ? CALL_ONE : CALL;
+}
+
 /* Decodes the byte at a place by the nodes after it. */
 static void decode(struct decoded *d, unsigned at)
 {
@@ -233,7 +242,7 @@ static void decode(struct decoded *d, unsigned at)
     case 0x23: node = conditional(d->node[end]), operands = 3; break;
     default:
         operands = d->rule.function[byte - 0x80].params;
-        node = (operands == 1 ? CALL_ONE : CALL) | (byte - 0x80 + 32 * operands) << SMALL;
+        node = called_as(&d->rule.function[byte - 0x80]) | (byte - 0x80 + 32 * operands) << SMALL;
     }
     for (unsigned i = 0; i < operands; i++) {
         node |= (uint64_t)end << (PLACES + PLACE * i);
@@ -250,7 +259,6 @@ static void decode_function(struct decoded *d, unsigned g)
     const unsigned result = f->kind[RESULT];
     const uint64_t least = result ? HEAD : FALSE_, most = result ? EMPTY + d->rule.n[result - 1] : TAIL;
     d->called[g].outcomes = f->first | least << 32 | most << 48;
-    d->called[g].guard = result == GUARD_LIST ? GUARD : 0;
     d->called[g].param[0] = (struct kind){1, 0};
     for (unsigned p = 0; p < f->params; p++)
         d->called[g].param[p] = (struct kind){radix(&d->rule, f->kind[p]), lowest(f->kind[p])};

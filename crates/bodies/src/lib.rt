@@ -1,5 +1,6 @@
 // The outcome of a body. Its spine is its first node, and after an if the branch chosen. Nodes of the spine are taken with no
-// recursion where an if has its condition beside it, and where the arguments of a call are leaves; all else is the evaluator's.
+// recursion where an if has its condition beside it, and where the arguments of a call are leaves and its result is no guard list;
+// all else is the evaluator's.
 use decoding::functions;
 use decoding::functions::FUNCTIONS;
 use decoding::functions::STRIDE;
@@ -18,7 +19,7 @@ ghost use Rattle.evaluator.specs.{evalWord, branchAt};
 ghost use Rattle.bodies.specs.{Leaf, plainBy, sortAt};
 
 // The number of the outcome of a body, by its word. `env` has the working numbers of the parameter values, and
-// at 4 and 5 what places of samples are worked out from.
+// at 4 and 5 the origins of places.
 pub fn outcome(
     words: &[u64; WORDS],
     traces: &[u8; codes::TRACES_BYTES],
@@ -122,7 +123,7 @@ fn branch(
     chosen
 }
 
-// A call, if its arguments are leaves.
+// A call whose result is no guard list, if its arguments are leaves.
 fn call(
     words: &[u64; WORDS],
     traces: &[u8; codes::TRACES_BYTES],
@@ -156,7 +157,7 @@ fn call(
     lookup(words[place], table, index)
 }
 
-// A call with one argument, if that is a leaf.
+// A call with one argument whose result is no guard list, if the argument is a leaf.
 fn call_one(
     words: &[u64; WORDS],
     traces: &[u8; codes::TRACES_BYTES],

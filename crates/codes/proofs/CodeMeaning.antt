@@ -1,5 +1,6 @@
 -- The numbers of outcomes, worked with as the rules work with outcomes:
---   ShortTraces, LengthsOf, SaysTraces      traces within the limit; their lengths, and their bytes
+--   ShortTraces, LengthsOf                  traces within the limit, and their lengths
+--   placesFrom, SaysTraces, Origins         where the samples of each begin; arrays with their bytes, and with the origins of places
 --   OfDemand, any-list                      no outcome, or one that a place allows; hd, tl and null allow any list
 --   workingContent                          the working number of what is worked with
 --   head-means, tail-means, null-means      hd, tl and null
@@ -7,7 +8,7 @@
 --   value-own, value-digit                  a value is not foreign to its kind, and what digit it has there
 --   none-foreign, failed-foreign            undecided and errors are foreign to every kind
 --   decided-means                           what a cell holds, by the result kind of its function
---   result-means, cell-working              from a cell to the working number, and back
+--   resultCode, result-means, cell-working  from a cell to the working number, and back
 --   working-not-zero                        no outcome has the working number of undecided
 use Prim.Native.Nat.{ℕ, zero, suc, _+_, _-_, _<_, _≤_, _%_, _*_, _/_}
 use native.Mathlib.Nat.{add-sub-cancel-left}
@@ -17,7 +18,7 @@ use mathlib.Core.Bool.{Bool, true, false, cond}
 use mathlib.Core.List.{List}
 use mathlib.Core.Option.{Option, none, some}
 use lib.ListN.{length, getD}
-use lib.Dec.{T, leb}
+use lib.Dec.{T, leb, eqb}
 use borrow.Author.Tests.{lt-ltb, le-ltb, lt-leb, ne-eqb, leb-true, leb-false}
 use Rattle.trace.specs.{mostSamples}
 use Rattle.semantics.specs.declared.Contact.{Contact}
@@ -31,9 +32,9 @@ use Rattle.semantics.specs.Numbering.{kindSize, digitOf}
 use Rattle.semantics.specs.Cells.{undecidedCode, falseCode, trueCode, headCode, tailCode, suffixCode, codeOf, contentOf, ofKind, outcomeIn}
 use Rattle.semantics.specs.Bodies.{withValue, operated}
 use Rattle.semantics.proofs.Demands.{same-contact, suffix-in, ofDemand, demand-kind}
-use Rattle.syntax.specs.Kinds.{kindNumber}
+use Rattle.syntax.specs.Kinds.{guardKind, kindNumber}
 use Rattle.codes.specs.declared.Lengths.{Lengths}
-use Rattle.codes.specs.{guardShift, guardCode, workingOf, mostTraceBytes, sampleCode, ramEnd, guardEnd, endOf, placeOf, emptyCode, headOf, tailOf, nullOf, radixOf, lowestCode, foreign, leastCode, mostCode, decidedCode, guardedCode, resultCode, cellCode}
+use Rattle.codes.specs.{guardShift, guardCode, workingOf, mostTraceBytes, sampleCode, ramOffset, guardOffset, originOf, placeOf, emptyCode, headOf, tailOf, nullOf, radixOf, lowestCode, foreign, leastCode, mostCode, decidedCode, shiftedCode, cellCode}
 
 -- ---- Traces
 
@@ -44,7 +45,7 @@ pub record LengthsOf (t : Traces) (n : Lengths) : Type 0 where
   pub ram : n .ram ≡ length (t .ofRam)
   pub guard : n .guard ≡ length (t .ofGuard)
 
--- where the samples of a trace begin
+-- where the samples of a trace begin among those of both
 abbrev pub placesFrom : Contact → ℕ
 placesFrom Ram = 0
 placesFrom Guard = 8 * mostTraceBytes
@@ -54,10 +55,10 @@ abbrev pub SaysTraces : Traces → List ℕ → Type 0
 SaysTraces t bytes = (c : Contact) (i : ℕ) → i < length (traceOf t c)
     → sampleCode bytes (placesFrom c + i) ≡ cond (getD (traceOf t c) i false) trueCode falseCode
 
--- an array of values has the numbers that places of samples are worked out from
-pub record EndsOf (t : Traces) (env : List ℕ) : Type 0 where
-  pub ram : getD env 4 0 ≡ length (t .ofRam) + ramEnd
-  pub guard : getD env 5 0 ≡ length (t .ofGuard) + guardEnd
+-- an array of values has the origins of places
+pub record Origins (t : Traces) (env : List ℕ) : Type 0 where
+  pub ram : getD env 4 0 ≡ length (t .ofRam) + ramOffset
+  pub guard : getD env 5 0 ≡ length (t .ofGuard) + guardOffset
 
 -- ---- Outcomes
 
@@ -106,16 +107,16 @@ module _ (t : Traces) (short : ShortTraces t) where
   within : (c : Contact) (k : ℕ) → T (ofDemand t anyList (Suffix c k)) → (k ≤ length (traceOf t c)) × (k ≤ mostSamples)
   within c k h = let l = suffix-in t c c k h .1 in (l, omega (arith, l, short c))
 
-  module _ (bytes env : List ℕ) (says : SaysTraces t bytes) (ends : EndsOf t env) where
+  module _ (bytes env : List ℕ) (says : SaysTraces t bytes) (origins : Origins t env) where
     -- the contact that a working number says, and the place that is worked out from it
-    end-there : (c : Contact) (k : ℕ) → k ≤ mostSamples → suc k ≤ length (traceOf t c)
-        → placeOf (endOf env (workingOf (Suffix c (suc k)))) (workingOf (Suffix c (suc k))) ≡ placesFrom c + (length (traceOf t c) - suc k)
-    end-there Ram k h l =
+    place-there : (c : Contact) (k : ℕ) → k ≤ mostSamples → suc k ≤ length (traceOf t c)
+        → placeOf (originOf env (workingOf (Suffix c (suc k)))) (workingOf (Suffix c (suc k))) ≡ placesFrom c + (length (traceOf t c) - suc k)
+    place-there Ram k h l =
         let bit : (5 + suc k) / 8192 % 2 ≡ 0 = omega arith in
-        rw (bit, ends .ram) (omega (arith, short Ram))
-    end-there Guard k h l =
+        rw (bit, origins .ram) (omega (arith, short Ram))
+    place-there Guard k h l =
         let bit : (8197 + suc k) / 8192 % 2 ≡ 1 = omega arith in
-        rw (bit, ends .guard) (omega (arith, short Guard))
+        rw (bit, origins .guard) (omega (arith, short Guard))
 
     pub head-means : (r : Option Outcome) → OfDemand t anyList r
         → headOf bytes env (workingContent r) ≡ workingContent (withValue Failed r (operated t hd))
@@ -124,7 +125,7 @@ module _ (t : Traces) (short : ShortTraces t) where
     head-means (some (Suffix c zero)) h = rw (le-ltb _ _ (suffix-least c zero), is-empty c)
     head-means (some (Suffix c (suc k))) h =
         let l = within c (suc k) (h (Suffix c (suc k)) refl) in
-        rw (le-ltb _ _ (suffix-least c (suc k)), not-empty c k (l .1), end-there c k (omega (arith, l .1)) (l .0))
+        rw (le-ltb _ _ (suffix-least c (suc k)), not-empty c k (l .1), place-there c k (omega (arith, l .1)) (l .0))
         (says c (length (traceOf t c) - suc k) (omega (arith, l .0)) ∙ truth-code (getD (traceOf t c) (length (traceOf t c) - suc k) false))
     head-means (some (Failed Head)) h = refl
     head-means (some (Failed Tail)) h = refl
@@ -239,42 +240,47 @@ decided-means {t} ls (list Guard) cell = rw (ls .guard) (decided-list t Guard ce
 
 -- ---- Working numbers
 
-suffix-guarded : (k : ℕ) → k ≤ mostSamples → guardedCode (suffixCode + k) ≡ workingOf (Suffix Guard k)
-suffix-guarded k h = rw (le-ltb (suffixCode + k) suffixCode (omega arith)) (omega arith)
+-- what a call makes of what a cell holds, by the result kind of its function
+abbrev pub resultCode : ℕ → ℕ → ℕ
+resultCode kind cell = cond (eqb kind guardKind) (shiftedCode cell) cell
+
+suffix-shifted : (k : ℕ) → k ≤ mostSamples → shiftedCode (suffixCode + k) ≡ workingOf (Suffix Guard k)
+suffix-shifted k h = rw (le-ltb (suffixCode + k) suffixCode (omega arith)) (omega arith)
 
 suffix-cell : (c : Contact) (k : ℕ) → k ≤ mostSamples → cellCode (workingOf (Suffix c k)) ≡ suffixCode + k
 suffix-cell Ram k h = omega arith
 suffix-cell Guard k h = omega arith
 
 module _ (t : Traces) (short : ShortTraces t) where
-  guarded-code : (o : Outcome) → T (ofKind t (list Guard) o) → guardedCode (codeOf o) ≡ workingOf o
-  guarded-code (Truth b) h = absurd h
-  guarded-code (Suffix Ram k) h = absurd h
-  guarded-code (Suffix Guard k) h = suffix-guarded k (omega (arith, suffix-in t Guard Guard k h .1, short Guard))
-  guarded-code (Failed Head) h = refl
-  guarded-code (Failed Tail) h = refl
+  shifted-code : (o : Outcome) → T (ofKind t (list Guard) o) → shiftedCode (codeOf o) ≡ workingOf o
+  shifted-code (Truth b) h = absurd h
+  shifted-code (Suffix Ram k) h = absurd h
+  shifted-code (Suffix Guard k) h = suffix-shifted k (omega (arith, suffix-in t Guard Guard k h .1, short Guard))
+  shifted-code (Failed Head) h = refl
+  shifted-code (Failed Tail) h = refl
 
-  own-code : (κ : Kind) (o : Outcome) → isGuard κ ≡ false → T (ofKind t κ o) → codeOf o ≡ workingOf o
-  own-code κ (Truth b) e h = refl
-  own-code truth (Suffix c k) e h = absurd h
-  own-code (list Ram) (Suffix Ram k) e h = refl
-  own-code (list Ram) (Suffix Guard k) e h = absurd h
-  own-code (list Guard) (Suffix c k) e h = let z : _≡_ {A = ℕ} 0 1 = cc in absurd (omega arith)
-  own-code κ (Failed x) e h = refl
+  -- of a kind that is no guard list the number in a cell is the working number
+  same-code : (κ : Kind) (o : Outcome) → isGuard κ ≡ false → T (ofKind t κ o) → codeOf o ≡ workingOf o
+  same-code κ (Truth b) e h = refl
+  same-code truth (Suffix c k) e h = absurd h
+  same-code (list Ram) (Suffix Ram k) e h = refl
+  same-code (list Ram) (Suffix Guard k) e h = absurd h
+  same-code (list Guard) (Suffix c k) e h = let z : _≡_ {A = ℕ} 0 1 = cc in absurd (omega arith)
+  same-code κ (Failed x) e h = refl
 
-  guarded-content : (r : Option Outcome) → OfDemand t (only (list Guard)) r → guardedCode (contentOf r) ≡ workingContent r
-  guarded-content none h = refl
-  guarded-content (some o) h = guarded-code o (h o refl)
+  shifted-content : (r : Option Outcome) → OfDemand t (only (list Guard)) r → shiftedCode (contentOf r) ≡ workingContent r
+  shifted-content none h = refl
+  shifted-content (some o) h = shifted-code o (h o refl)
 
-  own-content : (κ : Kind) → isGuard κ ≡ false → (r : Option Outcome) → OfDemand t (only κ) r → contentOf r ≡ workingContent r
-  own-content κ g none h = refl
-  own-content κ g (some o) h = own-code κ o g (h o refl)
+  same-content : (κ : Kind) → isGuard κ ≡ false → (r : Option Outcome) → OfDemand t (only κ) r → contentOf r ≡ workingContent r
+  same-content κ g none h = refl
+  same-content κ g (some o) h = same-code κ o g (h o refl)
 
   -- what a call gives, by the result kind of its function
   pub result-means : (κ : Kind) (r : Option Outcome) → OfDemand t (only κ) r → resultCode (kindNumber κ) (contentOf r) ≡ workingContent r
-  result-means truth = own-content truth refl
-  result-means (list Ram) = own-content (list Ram) refl
-  result-means (list Guard) = guarded-content
+  result-means truth = same-content truth refl
+  result-means (list Ram) = same-content (list Ram) refl
+  result-means (list Guard) = shifted-content
 
   pub cell-working : (κ : Kind) (o : Outcome) → T (ofKind t κ o) → cellCode (workingOf o) ≡ codeOf o
   cell-working κ (Truth false) h = refl

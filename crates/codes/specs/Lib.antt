@@ -41,20 +41,20 @@ mostTraceBytes = 512
 abbrev pub sampleCode : List ℕ → ℕ → ℕ
 sampleCode traces i = cond (bitOf (i % 8) (getD traces (i / 8 % (2 * mostTraceBytes)) 0)) trueCode falseCode
 
--- An array of values has at 4 and 5 a number for each contact, from which the working number of a suffix is subtracted for the
--- place of its oldest sample: the sum of the trace's length, the number of its empty list and the place where its samples begin.
-abbrev pub ramEnd : ℕ
-ramEnd = suffixCode
+-- The place of a suffix's oldest sample is the origin of its contact less the suffix's working number. An array of values has the
+-- origins at 4 and 5: the trace's length, and added to it the number of the empty list and the place where the samples begin.
+abbrev pub ramOffset : ℕ
+ramOffset = suffixCode
 
-abbrev pub guardEnd : ℕ
-guardEnd = guardCode + 8 * mostTraceBytes
+abbrev pub guardOffset : ℕ
+guardOffset = guardCode + 8 * mostTraceBytes
 
-abbrev pub endOf : List ℕ → ℕ → ℕ
-endOf env c = getD env (4 + c / guardShift % 2) 0
+abbrev pub originOf : List ℕ → ℕ → ℕ
+originOf env c = getD env (4 + c / guardShift % 2) 0
 
--- the place by that number; of numbers that no array and no suffix has, the lowest bits are taken
+-- the place by an origin; a difference below 0, which no array and suffix give, wraps round
 abbrev pub placeOf : ℕ → ℕ → ℕ
-placeOf end c = (end + 65536 - c) % 65536
+placeOf origin c = (origin + 65536 - c) % 65536
 
 -- whether a number is that of an empty list
 abbrev pub emptyCode : ℕ → Bool
@@ -64,7 +64,7 @@ emptyCode c = eqb (c % guardShift) suffixCode
 abbrev pub headOf : List ℕ → List ℕ → ℕ → ℕ
 headOf traces env c =
     cond (ltb c suffixCode) c
-    (cond (emptyCode c) headCode (sampleCode traces (placeOf (endOf env c) c)))
+    (cond (emptyCode c) headCode (sampleCode traces (placeOf (originOf env c) c)))
 
 abbrev pub tailOf : ℕ → ℕ
 tailOf c = cond (ltb c suffixCode) c (cond (emptyCode c) tailCode (c - 1))
@@ -110,13 +110,9 @@ mostCode kind n = cond (eqb kind truthKind) tailCode (lengthOf kind n + suffixCo
 abbrev pub decidedCode : ℕ → ℕ → ℕ → ℕ
 decidedCode least most cell = cond (ltb cell least) undecidedCode (cond (ltb most cell) undecidedCode cell)
 
--- the working number of what a cell holds: of a function with a guard list result a suffix is shifted, of others it is the
--- cell's own
-abbrev pub guardedCode : ℕ → ℕ
-guardedCode cell = cond (ltb cell suffixCode) cell (cell % guardShift + guardShift)
-
-abbrev pub resultCode : ℕ → ℕ → ℕ
-resultCode kind cell = cond (eqb kind guardKind) (guardedCode cell) cell
+-- the working number of what a cell of a function with a guard list result holds: a suffix is shifted
+abbrev pub shiftedCode : ℕ → ℕ
+shiftedCode cell = cond (ltb cell suffixCode) cell (cell % guardShift + guardShift)
 
 -- the number that a cell holds for a working number
 abbrev pub cellCode : ℕ → ℕ

@@ -2,7 +2,7 @@
 // says of which trace it is; in a cell its function's kind does. Every function answers for all numbers.
 ghost use mathlib.Core.Path.{_≡_};
 ghost use Prim.Native.Nat.{min};
-ghost use Rattle.codes.specs.{headOf, placeOf, emptyCode, tailOf, nullOf, decidedCode, guardedCode, cellCode, lengthOf, radixOf, sampleCode, leastCode, mostCode, lowestCode};
+ghost use Rattle.codes.specs.{headOf, placeOf, emptyCode, tailOf, nullOf, decidedCode, shiftedCode, cellCode, lengthOf, radixOf, sampleCode, leastCode, mostCode, lowestCode};
 
 // The numbers of outcomes; a suffix of length k of the ram trace is SUFFIX + k, of the guard trace GUARD_SUFFIX + k.
 pub const UNDECIDED: u16 = 0;
@@ -27,11 +27,10 @@ pub const TRACE_BYTES: usize = 512;
 
 pub const TRACES_BYTES: usize = 1024;
 
-// What the length of each trace is added to for the numbers at 4 and 5 of an array of values: the number of the empty list, and
-// where the samples begin.
-pub const RAM_END: u16 = SUFFIX;
+// What is added to the length of each trace for its origin: the number of its empty list and the place where its samples begin.
+pub const RAM_OFFSET: u16 = SUFFIX;
 
-pub const GUARD_END: u16 = GUARD_SUFFIX + 8 * 512;
+pub const GUARD_OFFSET: u16 = GUARD_SUFFIX + 8 * TRACE_BYTES as u16;
 
 // The lengths of both traces.
 pub struct Lengths {
@@ -39,8 +38,8 @@ pub struct Lengths {
     pub guard: u16,
 }
 
-// hd of what its operand gave. `traces` has the bytes of both traces; `env` has at 4 and 5, for each contact, the number from which
-// that of a suffix is subtracted for the place of its oldest sample.
+// hd of what its operand gave. `traces` has the bytes of both traces; `env` has at 4 and 5 the origin of each contact, from which
+// the number of a suffix is subtracted for the place of its oldest sample.
 pub fn head(traces: &[u8; TRACES_BYTES], env: &[u16; 6], operand: u16) -> u16
     ensures { λ r. ⌜ r ≡ headOf (now (traces .entry)) (now (env .entry)) operand ⌝ }
 {
@@ -56,19 +55,19 @@ pub fn head(traces: &[u8; TRACES_BYTES], env: &[u16; 6], operand: u16) -> u16
     )
 }
 
-// The place of the oldest sample of a suffix, by the number of its contact in an array of values.
-fn place(end: u16, operand: u16) -> u16
-    ensures { λ r. ⌜ r ≡ placeOf end operand ⌝ }
+// The place of the oldest sample of a suffix, by the origin of its contact.
+fn place(origin: u16, operand: u16) -> u16
+    ensures { λ r. ⌜ r ≡ placeOf origin operand ⌝ }
 {
-    ((end as u32 + 65536 - operand as u32) % 65536) as u16
+    ((origin as u32 + 65536 - operand as u32) % 65536) as u16
 }
 
-// The sample at place i of both traces as a number: the guard's begin at 8 * 512. It is worked out without a branch, which a
-// mixed trace would mislead.
+// The sample at place i of both traces as a number: the guard's begin at 8 * TRACE_BYTES. It is worked out without a
+// branch, which a mixed trace would mislead.
 fn sample(traces: &[u8; TRACES_BYTES], i: u16) -> u16
     ensures { λ r. ⌜ r ≡ sampleCode (now (traces .entry)) i ⌝ }
 {
-    let byte = wide(traces[((i / 8) % 1024) as usize]);
+    let byte = wide(traces[(i / 8) as usize % TRACES_BYTES]);
     (byte >> (i % 8)) % 2 + FALSE
 }
 
@@ -120,8 +119,8 @@ pub fn decided(least: u16, most: u16, cell: u16) -> u16
 }
 
 // The working number of what a cell of a function with a guard list result holds.
-pub fn guarded(cell: u16) -> u16
-    ensures { λ r. ⌜ r ≡ guardedCode cell ⌝ }
+pub fn shifted(cell: u16) -> u16
+    ensures { λ r. ⌜ r ≡ shiftedCode cell ⌝ }
 {
     if cell < SUFFIX {
         return cell;

@@ -77,14 +77,18 @@ abbrev pub placed : List ℕ → ℕ → ℕ → ℕ → ℕ
 placed ends sort small first =
     packed sort small first (endAt ends first) (endAt ends (endAt ends first)) (endAt ends (endAt ends (endAt ends first)))
 
+-- the signature of function g in an array of functions: first cells from 0 on, signatures from 32 on
+abbrev pub signatureIn : List ℕ → ℕ → ℕ
+signatureIn functions g = getD functions (32 + g) 0
+
 -- the sort of a call by the callee's result kind and the number of arguments
 abbrev pub callSortOf : ℕ → ℕ → ℕ
 callSortOf kind count = cond (eqb kind guardKind) callGuardSort (cond (eqb count 1) callOneSort callSort)
 
--- a call of function g with so many arguments; `functions` has signatures from 32 on
+-- a call of function g with so many arguments
 abbrev pub calledBy : List ℕ → List ℕ → ℕ → ℕ → ℕ → ℕ
 calledBy functions ends count g first =
-    placed ends (callSortOf (kindIn (getD functions (32 + g % 32) 0) 4) count) (g % 32 + 32 * count) first
+    placed ends (callSortOf (kindIn (signatureIn functions (g % 32)) 4) count) (g % 32 + 32 * count) first
 
 -- the word of a node: `first` is the place after it, `next` the word there
 abbrev pub decodedBy : List ℕ → List ℕ → List ℕ → ℕ → ℕ → Node → ℕ
@@ -114,10 +118,10 @@ wordsDown code params functions ends (suc k) at words =
 
 -- ---- Functions
 
--- word k of the functions: `functions` has first cells from 0 on and signatures from 32 on
+-- word k of the functions
 unfoldable pub entryOf : List ℕ → Lengths → ℕ → ℕ
 entryOf functions n k =
-    let signature = getD functions (32 + k / stride) 0 in
+    let signature = signatureIn functions (k / stride) in
     cond (eqb (k % stride) 0) (functionWord (getD functions (k / stride) 0) (kindIn signature 4) n) (kindWord (kindIn signature (k % stride - 1)) n)
 
 -- the first so many words of functions written

@@ -7,7 +7,7 @@ use Rattle.codes.specs.{leastCode, mostCode, decidedCode, radixOf, lowestCode}
 -- ---- Nodes
 
 -- The sorts of decoded nodes. hd, tl and null of a parameter have sorts of their own; so has an if whose condition is a
--- parameter, or null or hd of one, a call with one argument, and a call of a function with a guard list result.
+-- parameter, or null or hd of one, a call of a function with a guard list result, and any other call with one argument.
 abbrev pub constantSort : ℕ
 constantSort = 0
 

@@ -6,8 +6,8 @@ ghost use lib.ListN.{getD};
 ghost use Rattle.decoding.specs.Words.{packed, sortOf, paramOf, calleeOf, countOf, placesOf, constantOf, firstPlace, secondPlace, thirdPlace};
 
 // The sorts of decoded nodes. hd, tl and null of a parameter have sorts of their own; so has an if whose
-// condition is a parameter, or null or hd of one, a call with one argument, and a call of a function with a
-// guard list result.
+// condition is a parameter, or null or hd of one, a call of a function with a guard list result, and any other
+// call with one argument.
 pub const CONSTANT: u64 = 0;
 
 pub const PARAM: u64 = 1;

@@ -76,7 +76,8 @@ fn put_nodes(program: &[u8], params: &[u8; 32], functions: &[u64; 96], words: &m
     }
 }
 
-// The word of a node, by the place after it, the ends of the expressions from there on and the word there.
+// The word of a node, by the place after it, the ends of the expressions from there on and the word there; of a call also by the
+// callee's count in `params` and its signature in `functions`.
 fn decoded(
     params: &[u8; 32],
     functions: &[u64; 96],

@@ -27,7 +27,7 @@ use Rattle.syntax.specs.Kinds.{kindNumber}
 use Rattle.codes.specs.declared.Lengths.{Lengths}
 use Rattle.codes.specs.{workingOf, lowestCode, foreign}
 use Rattle.codes.proofs.CodeMeaning.{ShortTraces, LengthsOf, OfDemand, workingContent, radix-means, value-own, value-digit, none-foreign, failed-foreign}
-use Rattle.codes.proofs.Bounds.{short-lengths}
+use Rattle.codes.proofs.Bounds.{lengths-short}
 use Rattle.decoding.specs.Words.{firstIn, valuesIn, lowestIn, kindWord}
 use Rattle.decoding.proofs.Packing.{values-in, lowest-in}
 use Rattle.evaluator.specs.{bound, functionAt, paramAt, nextIndex, lookupBy, argsIn}
@@ -135,7 +135,7 @@ module _ (t : Traces) (n : Lengths) (words : List ℕ) (T : Table) (g i index : 
         let first : i + 0 ≡ i = omega arith in
         let kind : paramAt words g i ≡ kindWord (kindNumber κ) n = rw first at (due .kinds 0 κ refl) in
         let many : valuesIn (paramAt words g i) ≡ kindSize t κ =
-        ap valuesIn kind ∙ values-in (kindNumber κ) n (short-lengths short ls) ∙ radix-means ls κ in
+        ap valuesIn kind ∙ values-in (kindNumber κ) n (lengths-short short ls) ∙ radix-means ls κ in
         let lowest : lowestIn (paramAt words g i) ≡ lowestCode (kindNumber κ) = ap lowestIn kind ∙ lowest-in (kindNumber κ) n in
         rw (place, many, lowest, add-one i)
         (arg-means t κ index low (eval at) (λ next. argsIn words T eval g (length κs) (suc i) next (rest / 4096)) rs k more r h q)

@@ -18,7 +18,7 @@ use Rattle.semantics.proofs.Numbering.{number-values, values-in, config-cell}
 use Rattle.syntax.specs.Kinds.{kindNumber}
 use Rattle.codes.specs.declared.Lengths.{Lengths}
 use Rattle.codes.proofs.CodeMeaning.{decided-means}
-use Rattle.codes.proofs.Bounds.{short-lengths}
+use Rattle.codes.proofs.Bounds.{lengths-short}
 use Rattle.decoding.specs.Words.{firstIn, heldIn}
 use Rattle.decoding.proofs.Packing.{first-in, held-in}
 use Rattle.evaluator.specs.{functionAt}
@@ -51,7 +51,7 @@ module _ {P : Program} {t : Traces} {n : Lengths} {bytes words traces : List ℕ
   pub held-means : (cell : ℕ) → heldIn (functionAt words g) cell ≡ contentOf (outcomeIn t (f .result) cell)
   held-means cell =
       rw (s .function g f e)
-      (held-in (firstCell t P g) (kindNumber (f .result)) n cell (short-lengths (s .samples) (s .lengths))
+      (held-in (firstCell t P g) (kindNumber (f .result)) n cell (lengths-short (s .samples) (s .lengths))
       ∙ decided-means (s .lengths) (f .result) cell)
 
   pub first-is : firstIn (functionAt words g) ≡ firstCell t P g

@@ -7,16 +7,16 @@ use mathlib.Core.Path.{_≡_, refl, ap, _∙_}
 use mathlib.Core.Bool.{true, false}
 use mathlib.Core.List.{List, [], _∷_, _++_, append-assoc}
 use mathlib.Core.Option.{Option, none, some}
-use lib.Dec.{T}
 use lib.ListN.{length, getElem?, getD, drop}
 use Rattle.semantics.specs.declared.Contact.the-variants.{Ram, Guard}
 use Rattle.semantics.specs.declared.Error.the-variants.{Head, Tail}
 use Rattle.semantics.specs.declared.Outcome.{Outcome}
 use Rattle.semantics.specs.declared.Outcome.the-variants.{Truth, Suffix, Failed}
-use Rattle.semantics.specs.Language.{Kind, truth, list, Op, hd, tl, null, Expr, constant, empty, param, op, ifte, call, Args, noArgs, arg, Program, Traces, Value, InKinds, Demand, only, anyList, allows, operandDemand, Meets, MeetAll}
+use Rattle.semantics.specs.Language.{Kind, truth, Op, hd, tl, null, Expr, constant, empty, param, op, ifte, call, Args, noArgs, arg, Function, Program, Traces, Value, InKinds, Demand, only, anyList, operandDemand, Meets, MeetAll}
 use Rattle.semantics.specs.Cells.{falseCode, trueCode, suffixCode, contentOf}
 use Rattle.semantics.specs.Bodies.{paramValue, bodyOutcome, argsOutcome, withValue, withValues, operated, chosen}
 use Rattle.semantics.specs.Visits.{Table, lookup}
+use Rattle.semantics.proofs.Demands.{allows-own}
 use Rattle.semantics.proofs.Bodies.{kinded}
 use Rattle.semantics.proofs.Visits.{lookup-kinds}
 use Rattle.syntax.specs.declared.Node.{Node}
@@ -27,10 +27,9 @@ use Rattle.syntax.specs.Bytes.{nodeOf}
 use Rattle.rule.proofs.NodeBytes.{node-false, node-true, node-empty, node-empty-guard, node-if, node-op, node-param, node-call}
 use Rattle.rule.proofs.Expressions.{place-below}
 use Rattle.codes.specs.declared.Lengths.{Lengths}
-use Rattle.codes.specs.{guardCode, resultCode}
-use Rattle.codes.proofs.CodeMeaning.{OfDemand, any-list, workingContent, head-means, tail-means, null-means, result-means}
-use Rattle.decoding.specs.Words.{placesOf}
-use Rattle.decoding.specs.Decoding.{endAt, placed, callSortOf, calledBy, decodedBy, wordBy}
+use Rattle.codes.specs.{guardCode}
+use Rattle.codes.proofs.CodeMeaning.{OfDemand, any-list, workingContent, head-means, tail-means, null-means, resultCode, result-means}
+use Rattle.decoding.specs.Decoding.{endAt, argumentsOf, signatureIn, placed, callSortOf, calledBy, decodedBy, wordBy}
 use Rattle.decoding.proofs.Ends.{Ends, after-operand, byte-here, bytes-after, byte-within}
 use Rattle.evaluator.specs.{argsIn, evalWord, evalAt}
 use Rattle.evaluator.proofs.Sets.{EnvOf, Sets}
@@ -49,11 +48,6 @@ depth-pos (param i) = omega arith
 depth-pos (op p e) = omega arith
 depth-pos (ifte c a b) = omega arith
 depth-pos (call g xs) = omega arith
-
-allows-own : (κ : Kind) → T (allows (only κ) κ)
-allows-own truth = tt
-allows-own (list Ram) = tt
-allows-own (list Guard) = tt
 
 -- each parameter has a value
 value-there : (t : Traces) (Γ : List Kind) (vs : List Value) → InKinds t Γ vs → (i : ℕ) (κ : Kind) → getElem? Γ i ≡ some κ
@@ -97,7 +91,7 @@ module _ (P : Program) (t : Traces) (n : Lengths) (bytes W traces : List ℕ) (s
   record Decoded (at : ℕ) (k : Node) : Type 0 where
     ends : List ℕ
     right : Ends P bytes (at + 1) ends
-    word : getD W at 0 ≡ decodedBy (s .counts) (s .signatures) ends (at + 1) (getD W (at + 1) 0) k
+    word : getD W at 0 ≡ decodedBy (s .counts) (s .array) ends (at + 1) (getD W (at + 1) 0) k
 
   decoded : (at b : ℕ) (bs : List ℕ) (k : Node) → drop at bytes ≡ b ∷ bs → nodeOf b ≡ k → Decoded at k
   unfolding wordBy
@@ -106,8 +100,17 @@ module _ (P : Program) (t : Traces) (n : Lengths) (bytes W traces : List ℕ) (s
       record {
         ends = x .0;
         right = x .1;
-        word = x .2 ∙ ap (λ (y : Node). decodedBy (s .counts) (s .signatures) (x .0) (at + 1) (getD W (at + 1) 0) y) (ap nodeOf (byte-here bytes at h) ∙ e);
+        word = x .2 ∙ ap (λ (y : Node). decodedBy (s .counts) (s .array) (x .0) (at + 1) (getD W (at + 1) 0) y) (ap nodeOf (byte-here bytes at h) ∙ e);
       }
+
+  -- the word of a call, by the callee's result kind and its parameters
+  called-by : (ends : List ℕ) (g : ℕ) (f : Function) (first : ℕ) → getElem? P g ≡ some f → g < 32
+      → calledBy (s .array) ends (argumentsOf (s .counts) g) g first
+      ≡ placed ends (callSortOf (kindNumber (f .result)) (length (f .params))) (g % 32 + 32 * length (f .params)) first
+  called-by ends g f first e below =
+      let kind : kindIn (signatureIn (s .array) (g % 32)) 4 ≡ kindNumber (f .result) =
+      ap (λ (k : ℕ). kindIn (signatureIn (s .array) k) 4) (mod-eq-of-lt below) ∙ s .results g f e in
+      rw (s .arguments g f e, kind)
 
   -- its outcome is that of the word there
   at-word : (d at : ℕ) {w : ℕ} → getD W at 0 ≡ w → eval d at ≡ evalWord W traces T env d w
@@ -130,7 +133,7 @@ module _ (P : Program) (t : Traces) (n : Lengths) (bytes W traces : List ℕ) (s
 
         applies : (o : Op) → opBy traces env o (workingContent (bodyOutcome t calls vs e))
             ≡ workingContent (withValue Failed (bodyOutcome t calls vs e) (operated t o))
-        applies hd = head-means t (s .samples) traces env (s .says) (en .ends) (bodyOutcome t calls vs e) list
+        applies hd = head-means t (s .samples) traces env (s .says) (en .origins) (bodyOutcome t calls vs e) list
         applies tl = tail-means t (s .samples) (bodyOutcome t calls vs e) list
         applies null = null-means t (s .samples) (bodyOutcome t calls vs e) list
 
@@ -209,7 +212,7 @@ module _ (P : Program) (t : Traces) (n : Lengths) (bytes W traces : List ℕ) (s
         let after = bytes-after bytes at q in
         let place = after-operand P bytes (s .short) (at + 1) (x .ends) (x .right) Γ narrow (operandDemand p δ) e (at + 1) rest (omega arith) (m .1) after in
         at-word (suc (suc d)) at (x .word)
-        ∙ op-word W traces T env (s .counts) (s .signatures) (x .ends) p d (at + 1) (omega (arith, place .within, s .short))
+        ∙ op-word W traces T env (s .counts) (s .array) (x .ends) p d (at + 1) (omega (arith, place .within, s .short))
         ∙ op-node (eval (suc d)) p e δ (at + 1) rest (λ δ′ to r k w. eval-means e δ′ (suc d) to r k l w) m after
     eval-means (ifte c a b) δ zero at rest m h q = absurd (omega arith)
     eval-means (ifte c a b) δ (suc zero) at rest m h q = absurd (omega (arith, depth-pos c))
@@ -233,17 +236,10 @@ module _ (P : Program) (t : Traces) (n : Lengths) (bytes W traces : List ℕ) (s
         let x = decoded at _ _ _ q (node-call below) in
         let after = bytes-after bytes at q in
         let inside = args-within (eval d) (at + 1) (x .ends) (x .right) xs (f .params) (at + 1) rest (omega arith) (m .3) after in
-        let kind : kindIn (getD (s .signatures) (32 + g % 32) 0) 4 ≡ kindNumber (f .result) =
-        ap (λ (k : ℕ). kindIn (getD (s .signatures) (32 + k) 0) 4) (mod-eq-of-lt below) ∙ s .results g f (m .1) in
-        let called = placed (x .ends) (callSortOf (kindNumber (f .result)) (length (f .params))) (g % 32 + 32 * length (f .params)) (at + 1) in
-        let word : getD W at 0 ≡ called =
-        x .word
-        ∙ ap (λ (k : ℕ). calledBy (s .signatures) (x .ends) k g (at + 1)) (s .arguments g f (m .1))
-        ∙ ap (λ (k : ℕ). placed (x .ends) (callSortOf k (length (f .params))) (g % 32 + 32 * length (f .params)) (at + 1)) kind in
-        at-word (suc d) at word
+        at-word (suc d) at (x .word ∙ called-by (x .ends) g f (at + 1) (m .1) below)
         ∙ call-word W traces T env (x .ends) d g (length (f .params)) (at + 1) below few (kindNumber (f .result))
         ∙ ap (λ (k : ℕ). resultCode (kindNumber (f .result)) k)
-        (args-mean xs d l (at + 1) (x .ends) (x .right) g (f .params) 0 0 (placesOf called) (at + 1) rest
+        (args-mean xs d l (at + 1) (x .ends) (x .right) g (f .params) 0 0 _ (at + 1) rest
         (calls g) (m .3) (due-first P t n bytes W traces s T g f (m .1)) (omega arith) (stand (x .ends) _ _ (at + 1) (length (f .params)) few inside) after)
         ∙ result-means t (s .samples) (f .result) (bodyOutcome t calls vs (call g xs)) (of-demand (call g xs) (only (f .result)) (f, m .1, allows-own (f .result), m .3))
 

@@ -6,8 +6,8 @@
 --   Along                                        a call that has gone past some of its arguments
 --   not-below                                    an argument that has a digit
 --   function-at, param-at, first-param-at        the words of a function, by their places
---   found-plain, found-guard                     what a call found, by its sort
 --   args-count, one-stop, one-found              a call, by the number of its arguments
+--   working-plain, working-guard                 what a call gave, by its sort
 --   next-index-is, lookup-is                     digits and numbers of configurations that need no cutting
 --   lookup-past                                  what the table holds past its cells
 use mathlib.Core.Path.{_≡_, refl, sym, ap, _∙_}
@@ -20,9 +20,9 @@ use native.Mathlib.Omega.{arith}
 use lib.Dec.{leb, ltb, eqb}
 use lib.ListN.{length, getD, List·getD-eq-default}
 use borrow.Author.Tests.{le-leb, lt-leb, ltb-true, ltb-false, eq-eqb, ne-eqb}
-use Rattle.codes.specs.{guardedCode, foreign}
+use Rattle.codes.specs.{shiftedCode, foreign}
 use Rattle.decoding.specs.Words.{callSort, callGuardSort, sortOf, secondPlace, thirdPlace, functionsFrom, stride, firstIn, leastIn, mostIn, heldIn, valuesIn, lowestIn}
-use Rattle.evaluator.specs.{functionAt, paramAt, digitBound, mostIndex, nextIndex, Digit, lookupBy, argsIn, foundBy, sortBy, evalWord, evalAt, branchAt}
+use Rattle.evaluator.specs.{functionAt, paramAt, digitBound, mostIndex, nextIndex, Digit, lookupBy, argsIn, workingBy, sortBy, evalWord, evalAt, branchAt}
 
 -- a number that is none of the first so many
 abbrev pub Apart : ℕ → ℕ → Type 0
@@ -182,12 +182,12 @@ module _ (W : List ℕ) (g : ℕ) {place : ℕ} (e : place ≡ functionsFrom + s
 pub args-count : (W T : List ℕ) (eval : ℕ → ℕ) (g places : ℕ) {count k : ℕ} → count ≡ k → argsIn W T eval g count 0 0 places ≡ argsIn W T eval g k 0 0 places
 args-count W T eval g places e = ap (λ (c : ℕ). argsIn W T eval g c 0 0 places) e
 
--- what a call found, by its sort
-pub found-plain : (number : ℕ) {sort x : ℕ} → sort ≡ callSort → x ≡ foundBy sort number → x ≡ number
-found-plain number e q = q ∙ rw e
+-- what a call gave, by its sort
+pub working-plain : (number : ℕ) {sort x : ℕ} → sort ≡ callSort → x ≡ workingBy sort number → x ≡ number
+working-plain number e q = q ∙ rw e
 
-pub found-guard : (number : ℕ) {sort x : ℕ} → sort ≡ callGuardSort → x ≡ foundBy sort number → x ≡ guardedCode number
-found-guard number e q = q ∙ rw e
+pub working-guard : (number : ℕ) {sort x : ℕ} → sort ≡ callGuardSort → x ≡ workingBy sort number → x ≡ shiftedCode number
+working-guard number e q = q ∙ rw e
 
 -- one argument
 module _ (W T : List ℕ) (eval : ℕ → ℕ) (g places : ℕ) {kind v digit values : ℕ} (k : kind ≡ paramAt W g 0) (e : v ≡ eval (places % 4096))

@@ -16,8 +16,9 @@ use lib.ListN.{getD}
 use borrow.Author.Tests.{eqb-true}
 use Rattle.semantics.specs.Language.{Op, hd, tl, null}
 use Rattle.semantics.specs.Cells.{falseCode, trueCode}
-use Rattle.codes.specs.{headOf, tailOf, nullOf, guardedCode, resultCode}
+use Rattle.codes.specs.{headOf, tailOf, nullOf, shiftedCode}
 use Rattle.syntax.specs.Kinds.{guardKind}
+use Rattle.codes.proofs.CodeMeaning.{resultCode}
 use Rattle.rule.proofs.NodeBytes.{opNode}
 use Rattle.decoding.specs.Words.{paramSort, headSort, tailSort, nullSort, headParamSort, tailParamSort, nullParamSort, ifSort, ifParamSort, ifNullSort, ifHeadSort, callSort, callOneSort, callGuardSort}
 use Rattle.decoding.specs.Words.{packed, sortOf, paramOf, calleeOf, countOf, placesOf, firstPlace, thirdPlace}
@@ -237,8 +238,8 @@ module _ (W traces T env : List ℕ) where
 
     by-kind : (b : Bool)
         → let sort = cond b callGuardSort (cond (eqb count 1) callOneSort callSort) in
-        evalWord W traces T env (suc d) (called sort) ≡ cond b (guardedCode (args sort)) (args sort)
-    by-kind true = word-sort d (called callGuardSort) 14 (sorted callGuardSort) ∙ ap (λ (c : ℕ). guardedCode c) (by-word callGuardSort)
+        evalWord W traces T env (suc d) (called sort) ≡ cond b (shiftedCode (args sort)) (args sort)
+    by-kind true = word-sort d (called callGuardSort) 14 (sorted callGuardSort) ∙ ap (λ (c : ℕ). shiftedCode c) (by-word callGuardSort)
     by-kind false = by-count (eqb count 1) refl
 
     pub call-word : (kind : ℕ)

@@ -13,9 +13,9 @@ use Rattle.syntax.specs.Limits.{mostFunctions, mostParams, mostBytes}
 use Rattle.syntax.specs.Kinds.{kindNumber, kindIn}
 use Rattle.codes.specs.declared.Lengths.{Lengths}
 use Rattle.codes.specs.{workingOf}
-use Rattle.codes.proofs.CodeMeaning.{ShortTraces, LengthsOf, SaysTraces, EndsOf}
+use Rattle.codes.proofs.CodeMeaning.{ShortTraces, LengthsOf, SaysTraces, Origins}
 use Rattle.decoding.specs.Words.{functionWord, kindWord}
-use Rattle.decoding.specs.Decoding.{argumentsOf, wordBy}
+use Rattle.decoding.specs.Decoding.{argumentsOf, signatureIn, wordBy}
 use Rattle.decoding.proofs.Ends.{Ends}
 use Rattle.evaluator.specs.{functionAt, paramAt}
 
@@ -23,12 +23,12 @@ use Rattle.evaluator.specs.{functionAt, paramAt}
 abbrev pub firstCell : Traces → Program → ℕ → ℕ
 firstCell t P g = cells t (take g P)
 
--- the working numbers of parameter values, and what places of samples are worked out from
+-- the working numbers of parameter values, and the origins of places
 pub record EnvOf (t : Traces) (env : List ℕ) (vs : List Value) : Type 0 where
   pub value : (i : ℕ) (v : Value) → getElem? vs i ≡ some v → getD env i 0 ≡ workingOf (given v)
-  pub ends : EndsOf t env
+  pub origins : Origins t env
 
--- n are the lengths of the traces; `counts` has the functions' numbers of parameters, `signatures` their signatures from 32 on
+-- n are the lengths of the traces; `counts` has the functions' numbers of parameters, `array` is the array of functions
 pub record Sets (P : Program) (t : Traces) (n : Lengths) (bytes words traces : List ℕ) : Type 0 where
   pub short : length bytes ≤ mostBytes
   pub functions : length P ≤ mostFunctions
@@ -38,9 +38,9 @@ pub record Sets (P : Program) (t : Traces) (n : Lengths) (bytes words traces : L
   pub fits : cells t P ≤ mostCells
   pub counts : List ℕ
   pub arguments : (g : ℕ) (f : Function) → getElem? P g ≡ some f → argumentsOf counts g ≡ length (f .params)
-  pub signatures : List ℕ
-  pub results : (g : ℕ) (f : Function) → getElem? P g ≡ some f → kindIn (getD signatures (32 + g) 0) 4 ≡ kindNumber (f .result)
-  pub nodes : (at : ℕ) → at < length bytes → (ends : List ℕ) × Ends P bytes (at + 1) ends × (getD words at 0 ≡ wordBy bytes counts signatures ends words at)
+  pub array : List ℕ
+  pub results : (g : ℕ) (f : Function) → getElem? P g ≡ some f → kindIn (signatureIn array g) 4 ≡ kindNumber (f .result)
+  pub nodes : (at : ℕ) → at < length bytes → (ends : List ℕ) × Ends P bytes (at + 1) ends × (getD words at 0 ≡ wordBy bytes counts array ends words at)
   pub function : (g : ℕ) (f : Function) → getElem? P g ≡ some f → functionAt words g ≡ functionWord (firstCell t P g) (kindNumber (f .result)) n
   pub param : (g i : ℕ) (f : Function) (κ : Kind) → getElem? P g ≡ some f → getElem? (f .params) i ≡ some κ
       → paramAt words g i ≡ kindWord (kindNumber κ) n

@@ -7,7 +7,7 @@ use mathlib.Core.List.{List}
 use lib.Dec.{leb, eqb}
 use lib.ListN.{getD}
 use Rattle.semantics.specs.Cells.{undecidedCode, falseCode, trueCode}
-use Rattle.codes.specs.{headOf, tailOf, nullOf, guardedCode, foreign}
+use Rattle.codes.specs.{headOf, tailOf, nullOf, shiftedCode, foreign}
 use Rattle.decoding.specs.Words.{constantSort, paramSort, headSort, tailSort, nullSort, headParamSort, tailParamSort, nullParamSort, ifSort, ifParamSort, ifNullSort, ifHeadSort, callSort, callOneSort, callGuardSort}
 use Rattle.decoding.specs.Words.{sortOf, paramOf, calleeOf, countOf, placesOf, constantOf, firstPlace, secondPlace, thirdPlace, functionsFrom, stride, firstIn, heldIn, valuesIn, lowestIn}
 
@@ -42,6 +42,7 @@ Digit kind c digit =
     × (lowestIn kind ≤ c → digit ≡ c - lowestIn kind)
     × ((digit + lowestIn kind) % 2 ^ 64 ≡ c)
 
+-- the number of what the table holds for a configuration, by the function's word
 unfoldable pub lookupBy : ℕ → List ℕ → ℕ → ℕ
 lookupBy function table index = heldIn function (getD table (firstIn function + index) 0)
 
@@ -65,9 +66,9 @@ callBy words table eval w count = argsIn words table eval (calleeOf w) count 0 0
 abbrev pub paramIn : List ℕ → ℕ → ℕ
 paramIn env w = getD env (paramOf w) 0
 
--- the working number of what a call found, by the sort of its word
-abbrev pub foundBy : ℕ → ℕ → ℕ
-foundBy sort number = cond (eqb sort callGuardSort) (guardedCode number) number
+-- the working number of what a call gave, by the sort of its word
+abbrev pub workingBy : ℕ → ℕ → ℕ
+workingBy sort number = cond (eqb sort callGuardSort) (shiftedCode number) number
 
 -- a word of a sort; eval gives the outcome of the word at a place
 abbrev pub sortBy : List ℕ → List ℕ → List ℕ → List ℕ → (ℕ → ℕ) → ℕ → ℕ → ℕ
@@ -86,7 +87,7 @@ sortBy words traces table env eval w sort =
     (cond (eqb sort ifHeadSort) (branchBy eval w (headOf traces env (paramIn env w)))
     (cond (eqb sort callSort) (callBy words table eval w (countOf w))
     (cond (eqb sort callOneSort) (callBy words table eval w 1)
-    (cond (eqb sort callGuardSort) (guardedCode (callBy words table eval w (countOf w)))
+    (cond (eqb sort callGuardSort) (shiftedCode (callBy words table eval w (countOf w)))
     undecidedCode))))))))))))))
 
 -- the number of the outcome of a word, with so much depth left; undecided where there is none

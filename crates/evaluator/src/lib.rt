@@ -9,7 +9,7 @@ ghost use mathlib.Core.Path.{_≡_};
 ghost use Prim.Native.Nat.{_%_, _<_};
 ghost use lib.ListN.{getD};
 ghost use Rattle.decoding.specs.Words.{paramOf};
-ghost use Rattle.evaluator.specs.{digitBound, mostIndex, nextIndex, Digit, lookupBy, foundBy, branchAt, callAt, callOneAt, evalWord};
+ghost use Rattle.evaluator.specs.{digitBound, mostIndex, nextIndex, Digit, lookupBy, workingBy, branchAt, callAt, callOneAt, evalWord};
 
 // The number of the outcome of a node. The table is a reference to its slice: it goes from call to call as one
 // word. The sorts stand here by number, all sixteen, so that no range is tested.
@@ -69,7 +69,7 @@ pub fn eval(
             node,
             codes::head(traces, env, param(env, node)),
         ),
-        12 | 14 => found(sort, call(words, traces, table, env, left, node)),
+        12 | 14 => working(sort, call(words, traces, table, env, left, node)),
         13 => call_one(words, traces, table, env, left, node),
         15 => codes::UNDECIDED,
         _ => codes::UNDECIDED,
@@ -124,8 +124,8 @@ fn branch(
     chosen
 }
 
-// A call: its arguments left to right, then what the table holds for the callee on them. A value that is none of
-// its parameter's kind, undecided and errors too, is the outcome.
+// A call: its arguments left to right, then what the table holds for the callee on them, as the number in its cell. A value
+// that is none of its parameter's kind, undecided and errors too, is the outcome.
 fn call(
     words: &[u64; WORDS],
     traces: &[u8; codes::TRACES_BYTES],
@@ -176,12 +176,12 @@ fn call_one(
     lookup(words[place], table, digit)
 }
 
-// The working number of what a call found, by the sort of its node.
-fn found(sort: u64, number: u16) -> u16
-    ensures { λ r. ⌜ r ≡ foundBy sort number ⌝ }
+// The working number of what a call gave, by the sort of its node.
+fn working(sort: u64, number: u16) -> u16
+    ensures { λ r. ⌜ r ≡ workingBy sort number ⌝ }
 {
     if sort == nodes::CALL_GUARD {
-        codes::guarded(number)
+        codes::shifted(number)
     } else {
         number
     }
@@ -209,7 +209,7 @@ pub fn next_index(index: u64, radix: u64, digit: u64) -> u64
     (index % 4294967296) * (radix % 65536) + digit % 65536
 }
 
-// What the table holds for a configuration of a function, by the function's word. The configuration's number is
+// The number of what the table holds for a configuration of a function, by the function's word. The configuration's number is
 // below 2 ^ 49; of others the lowest bits are taken.
 pub fn lookup(function: u64, table: &&[u16], index: u64) -> u16
     ensures { λ r. ⌜ r ≡ lookupBy function (now (now (table .entry))) (index % mostIndex) ⌝ }

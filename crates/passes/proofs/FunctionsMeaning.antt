@@ -5,7 +5,8 @@
 --   radix-in, size-means                      how many values a kind has, how many configurations a function has
 --   headsFor                                  what the headers of a program say
 --   total-means                               the cells of all
---   first-means, signature-means, count-means      the first cell, the signature, the count of each function
+--   first-means, signature-means,
+--   count-means                               the first cell, the signature, the count of each function
 --   sizes-mean                                how many configurations each has
 --   main-cell-means                           main's cell on the whole traces
 use mathlib.Core.Path.{_≡_, refl, sym, ap, _∙_}
@@ -36,7 +37,8 @@ use Rattle.rule.proofs.WalkMeaning.{kind-number, at-most-four, kind-there}
 use Rattle.codes.specs.declared.Lengths.{Lengths}
 use Rattle.codes.specs.{Short, radixOf}
 use Rattle.codes.proofs.CodeMeaning.{LengthsOf, radix-means}
-use Rattle.passes.specs.Mirror.{sizeFrom, firstOf, signatureIn, countOf, sizeOf, mainCellOf, Heads, headsOf, signatureAt, totalBefore, functionsUpto}
+use Rattle.decoding.specs.Decoding.{signatureIn}
+use Rattle.passes.specs.Mirror.{sizeFrom, firstOf, countOf, sizeOf, mainCellOf, Heads, headsOf, signatureAt, totalBefore, functionsUpto}
 use Rattle.evaluator.proofs.Sets.{firstCell}
 use Rattle.passes.proofs.SetupLoops.{shortened-short}
 

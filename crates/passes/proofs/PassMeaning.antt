@@ -33,7 +33,7 @@ use Rattle.rule.proofs.FunctionBytes.{expr-bytes}
 use Rattle.rule.proofs.OutlineMeaning.{there}
 use Rattle.codes.specs.declared.Lengths.{Lengths}
 use Rattle.codes.proofs.CodeMeaning.{ShortTraces, workingContent, cell-working, working-not-zero}
-use Rattle.codes.proofs.Bounds.{short-lengths}
+use Rattle.codes.proofs.Bounds.{lengths-short}
 use Rattle.passes.specs.Mirror.{Setup, firstOf, bodyAt, sizeOf, envAt, filledAt, putIn, storedAt, visitAt, oneUnless, visitsFrom}
 use Rattle.passes.specs.Mirror.{storesFrom, Ready, passVisits, passCounts}
 use Rattle.evaluator.proofs.Sets.{firstCell, EnvOf, Sets}
@@ -83,7 +83,7 @@ module _ (P : Program) (t : Traces) (n : Lengths) (bytes : List ℕ) (S : Setup)
   ready : (g : ℕ) (f : Function) → getElem? P g ≡ some f → (len : ℕ) → cells t P ≤ len → Ready (S .functions) n g len
   ready g f e len long = record {
     below = omega (arith, place-below P g f e, r .sets .functions);
-    samples = short-lengths (r .sets .samples) (r .sets .lengths);
+    samples = lengths-short (r .sets .samples) (r .sets .lengths);
     within = rw (r .first g f e, r .sizes g f e) (omega (arith, first-within t P g f e));
   }
 

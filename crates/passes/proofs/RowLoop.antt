@@ -12,7 +12,8 @@ use native.Mathlib.Omega.{arith}
 use lib.ListN.{length, set}
 use Rattle.syntax.specs.Limits.{mostParams}
 use Rattle.codes.specs.declared.Lengths.{Lengths}
-use Rattle.passes.specs.Mirror.{Setup, signatureIn, countOf, sizeFrom, sizeOf, valuesInto, blank, envAt, rowWidth, stepped, Ready, RowReady, SameOthers, visitsFrom, storesFrom}
+use Rattle.decoding.specs.Decoding.{signatureIn}
+use Rattle.passes.specs.Mirror.{Setup, countOf, sizeFrom, sizeOf, valuesInto, blank, envAt, rowWidth, stepped, Ready, RowReady, SameOthers, visitsFrom, storesFrom}
 use Rattle.passes.proofs.Rows.{size-rows, row-values, step-others}
 use Rattle.passes.proofs.PassWays.{Visited, visited-start, visited-length, visited-row, visited-end}
 

@@ -3,7 +3,7 @@
 --   traces-short                        the traces that bytes mean, and their lengths
 --   traces-mean                         the array of the traces
 --   arraysOf                            all of them
---   first-is, signature-is, count-is       what the array of functions has of each
+--   first-is, signature-is, count-is    what the array of functions has of each
 --   sets                                what ties words and bytes to the program and the traces
 use mathlib.Core.Path.{_≡_, sym, ap, _∙_}
 use mathlib.Core.Bool.{Bool, false, cond}
@@ -32,12 +32,12 @@ use Rattle.codes.specs.declared.Lengths.{Lengths}
 use Rattle.codes.specs.{Short, mostTraceBytes, sampleCode}
 use Rattle.codes.proofs.CodeMeaning.{ShortTraces, LengthsOf, placesFrom, SaysTraces}
 use Rattle.decoding.specs.Words.{mostWords, functionWord, kindWord}
-use Rattle.decoding.specs.Decoding.{endsDown, wordsFilled}
+use Rattle.decoding.specs.Decoding.{endsDown, signatureIn, wordsFilled}
 use Rattle.decoding.proofs.Ends.{ends-mean, arguments-mean}
 use Rattle.decoding.proofs.Filled.{node-filled, function-filled, param-filled}
 use Rattle.evaluator.specs.{functionAt, paramAt}
 use Rattle.evaluator.proofs.Sets.{firstCell, Sets}
-use Rattle.passes.specs.Mirror.{Setup, setup, firstOf, signatureIn, countOf, functionsUpto, tracesOf}
+use Rattle.passes.specs.Mirror.{Setup, setup, firstOf, countOf, functionsUpto, tracesOf}
 use Rattle.passes.proofs.FunctionsMeaning.{signatureFor, param-kind, result-kind, headsFor, first-means, signature-means, count-means}
 
 -- ---- The traces
@@ -141,7 +141,7 @@ module _ {bytes : List ℕ} {s : Sort} {P : Program} (a : Accepted bytes s P) (r
     pub count-is : countOf F g ≡ length (f .params)
     count-is = count-means a t n (lengths-are ram guard n) g f e
 
-    result-is : kindIn (getD F (32 + g) 0) 4 ≡ kindNumber (f .result)
+    result-is : kindIn (signatureIn F g) 4 ≡ kindNumber (f .result)
     result-is = rw signature-is (result-kind (f .params) (f .result) (a .fits g f e .params))
 
     function-is : functionAt (S .words) g ≡ functionWord (firstCell t P g) (kindNumber (f .result)) n
@@ -167,7 +167,7 @@ module _ {bytes : List ℕ} {s : Sort} {P : Program} (a : Accepted bytes s P) (r
         fits = fits;
         counts = outlineOf s P .params;
         arguments = λ g f e. arguments-mean a g f e;
-        signatures = F;
+        array = F;
         results = λ g f e. result-is g f e;
         nodes = λ at h. (
           endsDown bytes (outlineOf s P .params) (length bytes - (at + 1)) (at + 1) (replicate mostBytes 0),

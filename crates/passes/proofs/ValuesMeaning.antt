@@ -165,5 +165,5 @@ env-means {t} {n} ls short κs result few i h =
     λ j l. values-above (signatureFor κs result) n (length κs) i (blank n) j (omega arith) in
     record {
       value = λ j v e. rw are (number-there (valuesAt t κs i) (drop (length κs) (blank n)) j v e);
-      ends = record { ram = above 4 (omega arith) ∙ rw (ls .ram); guard = above 5 (omega arith) ∙ rw (ls .guard) };
+      origins = record { ram = above 4 (omega arith) ∙ rw (ls .ram); guard = above 5 (omega arith) ∙ rw (ls .guard) };
     }

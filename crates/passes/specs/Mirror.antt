@@ -9,13 +9,14 @@ use lib.ListN.{length, getD, set, take, drop, replicate}
 use Rattle.trace.specs.{mostSamples}
 use Rattle.semantics.specs.Cells.{undecidedCode}
 use Rattle.codes.specs.declared.Lengths.{Lengths}
-use Rattle.codes.specs.{mostTraceBytes, ramEnd, guardEnd, Short, radixOf, valueCode, lowestCode, cellCode}
+use Rattle.codes.specs.{mostTraceBytes, ramOffset, guardOffset, Short, radixOf, valueCode, lowestCode, cellCode}
 use Rattle.syntax.specs.Limits.{mostFunctions, mostBytes, mostDepth}
 use Rattle.syntax.specs.Kinds.{signatureOf, kindIn}
 use Rattle.rule.specs.declared.Outline.{Outline}
 use Rattle.rule.specs.Form.{padded}
 use Rattle.rule.specs.Walk.{atMostFour}
 use Rattle.decoding.specs.Words.{heldIn}
+use Rattle.decoding.specs.Decoding.{signatureIn}
 use Rattle.evaluator.specs.{digitBound, functionAt, evalWord}
 
 -- ---- Configurations
@@ -88,9 +89,6 @@ setup words functions traces = record { words = words; functions = functions; tr
 abbrev pub firstOf : List ℕ → ℕ → ℕ
 firstOf functions g = getD functions g 0
 
-abbrev pub signatureIn : List ℕ → ℕ → ℕ
-signatureIn functions g = getD functions (32 + g) 0
-
 abbrev pub countOf : List ℕ → ℕ → ℕ
 countOf functions g = atMostFour (getD functions (64 + g) 0 % 256)
 
@@ -103,9 +101,9 @@ bodyAt words start = getD words (start % mostBytes) 0
 abbrev pub sizeOf : List ℕ → Lengths → ℕ → ℕ
 sizeOf functions n g = sizeFrom (signatureIn functions g) n 0 (countOf functions g)
 
--- what parameter values are put into; at 4 and 5 it has what places of samples are worked out from
+-- what parameter values are put into; at 4 and 5 it has the origins of places
 abbrev pub blank : Lengths → List ℕ
-blank n = 0 ∷ 0 ∷ 0 ∷ 0 ∷ (n .ram + ramEnd) ∷ (n .guard + guardEnd) ∷ []
+blank n = 0 ∷ 0 ∷ 0 ∷ 0 ∷ (n .ram + ramOffset) ∷ (n .guard + guardOffset) ∷ []
 
 -- the parameter values of configuration `index` of a function
 abbrev pub envAt : List ℕ → Lengths → ℕ → ℕ → List ℕ
@@ -203,6 +201,7 @@ pub record Heads : Type 0 where
 abbrev pub heads : List ℕ → List ℕ → List ℕ → Heads
 heads kinds guards params = record { kinds = kinds; guards = guards; params = params }
 
+-- those of an outline
 abbrev pub headsOf : Outline → Heads
 headsOf o = heads (o .kinds) (o .guards) (o .params)
 

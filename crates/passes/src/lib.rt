@@ -13,7 +13,8 @@ ghost use Prim.Native.Nat.{_+_, _-_, _<_, _≤_};
 ghost use lib.ListN.{length, set};
 ghost use Rattle.syntax.specs.Limits.{mostDepth};
 ghost use Rattle.evaluator.specs.{digitBound, evalWord};
-ghost use Rattle.passes.specs.Mirror.{setup, signatureIn, countOf, sizeOf, rowWidth, Ready, RowReady, SameOthers, fits, bodyAt, putIn, oneUnless};
+ghost use Rattle.decoding.specs.Decoding.{signatureIn};
+ghost use Rattle.passes.specs.Mirror.{setup, countOf, sizeOf, rowWidth, Ready, RowReady, SameOthers, fits, bodyAt, putIn, oneUnless};
 ghost use Rattle.passes.specs.Mirror.{visitsFrom, storesFrom, passVisits, passCounts, mostConfigurations, cleared, mainCellOf};
 
 // One pass over the cells of so many functions: how many outcomes it stored. A function whose cells do not
@@ -94,8 +95,8 @@ fn pass_function(
         0,
         0,
         0,
-        n.ram + codes::RAM_END,
-        n.guard + codes::GUARD_END,
+        n.ram + codes::RAM_OFFSET,
+        n.guard + codes::GUARD_OFFSET,
     ];
     configurations::values(signature, others, n, 0, &mut env);
     let mut stored: usize = 0;

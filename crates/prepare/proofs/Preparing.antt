@@ -74,11 +74,11 @@ length-passed n size e =
     (ltb-false mostSamples n (h .0), eqb-true size (bytesFor n) (not-false (eqb size (bytesFor n)) (h .1)))
 
 -- both traces have at most 4,095 samples, and the bytes that these take
-pub record Sized (h : Handed) : Type 0 where
+pub record LengthsFit (h : Handed) : Type 0 where
   pub few : (h .n ≤ mostSamples) × (h .m ≤ mostSamples)
   pub packed : (length (h .ram) ≡ bytesFor (h .n)) × (length (h .guard) ≡ bytesFor (h .m))
 
-pub lengths-passed : (h : Handed) {c : Check} → c ≡ lengthsCheck h → c ≡ Passed → Sized h
+pub lengths-passed : (h : Handed) {c : Check} → c ≡ lengthsCheck h → c ≡ Passed → LengthsFit h
 lengths-passed h e q =
     let both = then-passed (lengthCheck (h .n) (length (h .ram))) _ (sym e ∙ q) in
     let ram = length-passed (h .n) (length (h .ram)) (both .0) in
@@ -100,14 +100,14 @@ module _ {bytes : List ℕ} {s : Sort} {P : Program} (a : Accepted bytes s P) wh
   functions-few e = rw (outline-is e) (a .few)
 
 module _ {bytes : List ℕ} (h : Handed) {P : Program} (a : Accepted bytes (h .sort) P) {outline : Outline}
-    (l : outline ≡ outlineFrom (programSort bytes) (programFor (Only (h .sort)) bytes)) (long : Sized h) {places : Cells}
+    (l : outline ≡ outlineFrom (programSort bytes) (programFor (Only (h .sort)) bytes)) (fit : LengthsFit h) {places : Cells}
     (f : places .functions ≡ functionsOf (headsOf outline) (lengthsOf h) (outline .functions))
     (s : places .total ≡ totalOf (headsOf outline) (lengthsOf h) (outline .functions)) where
   pub total-is : places .total ≡ cells (samplesOf h) P
   unfolding outlineOf
   total-is =
       s
-      ∙ total-of (headsOf outline) (lengthsOf h) (outline .functions) (long .few) (functions-few a l)
+      ∙ total-of (headsOf outline) (lengthsOf h) (outline .functions) (fit .few) (functions-few a l)
       ∙ rw (outline-is a l) (total-means a (samplesOf h) (lengthsOf h) (lengths-are (h .ram) (h .guard) (lengthsOf h)))
 
   pub settled : (lent : ℕ) (set : Bool) {d : Check} → d ≡ (paddingCheck set then tableCheck (places .total) lent) → d ≡ Passed
@@ -118,10 +118,10 @@ module _ {bytes : List ℕ} (h : Handed) {P : Program} (a : Accepted bytes (h .s
       record {
         program = P;
         accepted = a;
-        few = long .few;
-        packed = long .packed;
+        few = fit .few;
+        packed = fit .packed;
         laid = outline-is a l;
-        first = f ∙ functions-of (headsOf outline) (lengthsOf h) (outline .functions) (long .few) (functions-few a l) ∙ rw (outline-is a l);
+        first = f ∙ functions-of (headsOf outline) (lengthsOf h) (outline .functions) (fit .few) (functions-few a l) ∙ rw (outline-is a l);
         total = total-is;
         fits = rw total-is at (r .1);
         room = rw total-is at (r .0);
@@ -133,19 +133,19 @@ module _ {bytes : List ℕ} (h : Handed) {P : Program} (a : Accepted bytes (h .s
 abbrev Clean : Handed → Type 0
 Clean h = (paddingSet (h .ram) (h .n) ≡ false) × (paddingSet (h .guard) (h .m) ≡ false)
 
-pub trace-passed : (h : Handed) → traceCheck h ≡ Passed → Sized h × Clean h
+pub trace-passed : (h : Handed) → traceCheck h ≡ Passed → LengthsFit h × Clean h
 trace-passed h e =
     let both = then-passed (lengthsCheck h) _ e in
     let clean = either-passed (paddingSet (h .ram) (h .n)) (paddingSet (h .guard) (h .m)) _ (both .1) in
     (lengths-passed h refl (both .0), clean)
 
-pub trace-passes : (h : Handed) → Sized h → Clean h → traceCheck h ≡ Passed
-trace-passes h long clean =
+pub trace-passes : (h : Handed) → LengthsFit h → Clean h → traceCheck h ≡ Passed
+trace-passes h fit clean =
     rw (
-      le-ltb mostSamples (h .n) (long .few .0),
-      eq-eqb (length (h .ram)) (bytesFor (h .n)) (long .packed .0),
-      le-ltb mostSamples (h .m) (long .few .1),
-      eq-eqb (length (h .guard)) (bytesFor (h .m)) (long .packed .1),
+      le-ltb mostSamples (h .n) (fit .few .0),
+      eq-eqb (length (h .ram)) (bytesFor (h .n)) (fit .packed .0),
+      le-ltb mostSamples (h .m) (fit .few .1),
+      eq-eqb (length (h .guard)) (bytesFor (h .m)) (fit .packed .1),
       clean .0,
       clean .1,
     )

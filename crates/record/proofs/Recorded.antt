@@ -1,5 +1,5 @@
 -- What recording writes is read and checked as it was worked out:
---   traces-long            its traces have the samples and bytes that traces can have
+--   lengths-fit            its traces have the samples and bytes that traces can have
 --   recorded-stated        what is recorded is what a record can hold
 --   trace-packing          its traces' very bytes are written
 --   written-reads-back     so it is read back, in format 2, or with two traces in format 3
@@ -34,7 +34,7 @@ use Rattle.rule.specs.Reading.{Parsed, got, checkFrom, programSort, programFor,
 use Rattle.rule.specs.Reading as reading
 use Rattle.rule.proofs.Programs.{passed-accepted, read-encoded, takes-only}
 use Rattle.prepare.specs.Checks.{traceCheck, tableCheck, checkRead, evaluateCheck}
-use Rattle.prepare.proofs.Preparing.{Sized, read-own, trace-passed, table-passed}
+use Rattle.prepare.proofs.Preparing.{LengthsFit, read-own, trace-passed, table-passed}
 use Rattle.layout.specs.declared.Format.{Format}
 use Rattle.layout.specs.Form.{formatSort, Contents, formatFor, formatOf, guardSamples, tracesHeld, mostVerdict, layout, LabelFits, Stated}
 use Rattle.layout.specs.Trailer.{contentsIn}
@@ -84,7 +84,7 @@ module _ (h : Handed) where
 record Seen (program : List ℕ) (h : Handed) (lent : ℕ) : Type 0 where
   P : Program
   accepted : Accepted program (h .sort) P
-  long : Sized h
+  fit : LengthsFit h
   clean : (paddingSet (h .ram) (h .n) ≡ false) × (paddingSet (h .guard) (h .m) ≡ false)
   table : tableCheck (cells (samplesOf h) P) lent ≡ check.Passed
   fits : suc (cells (samplesOf h) P) < 256 ^ 4
@@ -105,7 +105,7 @@ seen program h lent are e =
     record {
       P = P;
       accepted = a;
-      long = t .0;
+      fit = t .0;
       clean = t .1;
       table = c .1;
       fits = omega (arith, table-passed (cells (samplesOf h) P) lent refl (c .1) .1);
@@ -116,8 +116,8 @@ module _ (program : List ℕ) (h : Handed) (lent room : ℕ) (are : AreBytes pro
   unfolding writeCheck
   evaluated = seen program h lent are (then-passed _ _ e .0)
 
-  pub traces-long : Sized h
-  traces-long = evaluated .long
+  pub lengths-fit : LengthsFit h
+  lengths-fit = evaluated .fit
 
   abbrev v : Verdict
   v = workedOut program h
@@ -138,8 +138,8 @@ module _ (program : List ℕ) (h : Handed) (lent room : ℕ) (are : AreBytes pro
   recorded-stated =
       record {
         program = (evaluated .P, rw (written-sort h (h .sort)) (evaluated .accepted));
-        few = rw (length-samples (h .ram) (h .n)) (evaluated .long .few .0);
-        fewGuard = guard-few h (h .sort) (evaluated .long .few .1);
+        few = rw (length-samples (h .ram) (h .n)) (evaluated .fit .few .0);
+        fewGuard = guard-few h (h .sort) (evaluated .fit .few .1);
         label = no-label h (h .sort);
         verdict = verdict-small _;
         counted = counted .0;
@@ -150,8 +150,8 @@ module _ (program : List ℕ) (h : Handed) (lent room : ℕ) (are : AreBytes pro
   pub trace-packing : arePackings h ≡ true
   trace-packing =
       rw (
-        is-packing (h .ram) (h .n) (evaluated .long .packed .0) (evaluated .clean .0),
-        is-packing (h .guard) (h .m) (evaluated .long .packed .1) (evaluated .clean .1),
+        is-packing (h .ram) (h .n) (evaluated .fit .packed .0) (evaluated .clean .0),
+        is-packing (h .guard) (h .m) (evaluated .fit .packed .1) (evaluated .clean .1),
       )
 
   -- the table's check, of what is recorded

@@ -2,7 +2,7 @@
 --   same-contact, contact-same            contacts are told apart
 --   in-suffix, suffix-in, shorter-in      the suffixes that a list kind has
 --   whole-in                              the whole traces are values of main's parameters
---   allows-only                           a demand for one kind allows no other
+--   allows-own, allows-only               a demand for one kind allows that one, and no other
 --   ofDemand, demand-kind, demand-error   the outcomes that meet a demand; for one kind, those of that kind
 use Prim.Native.Nat.{ℕ, suc, _≤_}
 use native.Mathlib.Omega.{arith}
@@ -58,6 +58,11 @@ whole-in One t = (whole t Ram, tt)
 whole-in Two t = (whole t Ram, (whole t Guard, tt))
 
 -- ---- Demands
+
+pub allows-own : (κ : Kind) → T (allows (only κ) κ)
+allows-own truth = tt
+allows-own (list Ram) = tt
+allows-own (list Guard) = tt
 
 pub allows-only : (κ κ′ : Kind) → T (allows (only κ) κ′) → κ ≡ κ′
 allows-only truth truth h = refl

@@ -31,7 +31,7 @@ use Rattle.decoding.proofs.nodes.second.Reads as second-reads
 use Rattle.decoding.proofs.nodes.sort.Reads as sort-reads
 use Rattle.decoding.proofs.nodes.third.Reads as third-reads
 use Rattle.evaluator.proofs.digit.Reads as digit-reads
-use Rattle.evaluator.proofs.found.Reads as found-reads
+use Rattle.evaluator.proofs.working.Reads as working-reads
 use Rattle.evaluator.proofs.lookup.Reads as lookup-reads
 use Rattle.evaluator.proofs.next_index.Reads as next-index-reads
 use Rattle.evaluator.proofs.param.Reads as param-reads
@@ -42,10 +42,10 @@ use mathlib.Core.Path.{_≡_, sym, ap, _∙_}
 use mathlib.Core.Logic.{inl, inr, ⊎-elim}
 use native.Mathlib.Omega.{arith}
 use borrow.Author.Needs.{needs}
-use Rattle.codes.specs.{guardedCode}
+use Rattle.codes.specs.{shiftedCode}
 use Rattle.decoding.specs.Words.{calleeOf, placesOf}
 use Rattle.evaluator.specs.{sortBy, evalWord, evalAt, branchAt, callAt, callOneAt}
-use Rattle.evaluator.proofs.EvalWays.{apart-above, eval-deep, eval-sort, eval-other, branch-true, branch-false, branch-other, Along, along-start, along-end, along-stop, along-more, not-below, function-at, param-at, first-param-at, args-count, found-plain, found-guard, one-stop, one-found, next-index-is, lookup-is}
+use Rattle.evaluator.proofs.EvalWays.{apart-above, eval-deep, eval-sort, eval-other, branch-true, branch-false, branch-other, Along, along-start, along-end, along-stop, along-more, not-below, function-at, param-at, first-param-at, args-count, working-plain, working-guard, one-stop, one-found, next-index-is, lookup-is}
 
 abbrev μ-branch : Measures 5 branch-kinds.ps ℕ
 μ-branch κs a = a .1 .1 .1 .1 .0 * 4 + 1
@@ -165,8 +165,8 @@ eval-claims t = (
   branch.Post,
   call-below t,
   call.Post,
-  found-reads.Asked,
-  found-reads.Learnt,
+  working-reads.Asked,
+  working-reads.Learnt,
   call-one-below t,
   call-one.Post,
 )
@@ -477,8 +477,8 @@ eval-branch-requires-4 t c κs = (omega arith, tt)
 eval-call-requires : (t : ℕ) → eval-lts.Need-call-requires (eval-claims t) (eval-at t) eval.Post
 eval-call-requires t c κs = (omega arith, tt)
 
-eval-found-requires : (t : ℕ) → eval-lts.Need-found-requires (eval-claims t) (eval-at t) eval.Post
-eval-found-requires t c κs = search needs
+eval-working-requires : (t : ℕ) → eval-lts.Need-working-requires (eval-claims t) (eval-at t) eval.Post
+eval-working-requires t c κs = search needs
 
 eval-call-one-requires : (t : ℕ) → eval-lts.Need-call-one-requires (eval-claims t) (eval-at t) eval.Post
 eval-call-one-requires t c κs = (omega arith, tt)
@@ -529,8 +529,8 @@ eval-returns-14 t c =
     let sorted = c .before .before .before in
     let number = c .before .call .result in
     ⊎-elim
-    (λ e. found-plain number e (c .found .ensures) ∙ c .before .call .ensures ∙ sym (at-sort t sorted 12 e))
-    (λ e. found-guard number e (c .found .ensures) ∙ ap (λ (x : ℕ). guardedCode x) (c .before .call .ensures) ∙ sym (at-sort t sorted 14 e))
+    (λ e. working-plain number e (c .working .ensures) ∙ c .before .call .ensures ∙ sym (at-sort t sorted 12 e))
+    (λ e. working-guard number e (c .working .ensures) ∙ ap (λ (x : ℕ). shiftedCode x) (c .before .call .ensures) ∙ sym (at-sort t sorted 14 e))
     (c .before .before .match .keys13)
 
 eval-returns-15 : (t : ℕ) → eval-lts.Need-returns-15 (eval-claims t) (eval-at t) eval.Post
@@ -679,7 +679,7 @@ pub +branch+call+call-one+eval+operand-spec : {M : Type 1} → statement M
     (eval-head-requires-3 t)
     (eval-branch-requires-4 t)
     (eval-call-requires t)
-    (eval-found-requires t)
+    (eval-working-requires t)
     (eval-call-one-requires t)
     (eval-returns-2 t)
     (eval-returns-3 t)

@@ -4,7 +4,8 @@ use Prim.Native.Nat.{_-_, _<_, _≤_}
 use native.Mathlib.Omega.{arith}
 use borrow.Author.Needs.{needs}
 use Rattle.syntax.specs.Limits.{mostParams}
-use Rattle.passes.specs.Mirror.{setup, signatureIn, countOf, sizeFrom, sizeOf, rowWidth}
+use Rattle.decoding.specs.Decoding.{signatureIn}
+use Rattle.passes.specs.Mirror.{setup, countOf, sizeFrom, sizeOf, rowWidth}
 use Rattle.passes.proofs.Rows.{size-most}
 use Rattle.passes.proofs.PassWays.{stores-le, visited-length, visited-few, visited-row}
 use Rattle.passes.proofs.RowLoop.{Stepping, stepping-start, stepping-inside, stepping-ready, stepping-more, stepping-end}

@@ -9,7 +9,8 @@ use lib.ListN.{length, getD, set}
 use lib.Seq.{set-set}
 use borrow.Author.Needs.{needs}
 use Rattle.codes.specs.declared.Lengths.{Lengths}
-use Rattle.passes.specs.Mirror.{setup, firstOf, signatureIn, countOf, envAt, rowWidth, rowLowest, RowReady, SameOthers}
+use Rattle.decoding.specs.Decoding.{signatureIn}
+use Rattle.passes.specs.Mirror.{setup, firstOf, countOf, envAt, rowWidth, rowLowest, RowReady, SameOthers}
 use Rattle.passes.proofs.Rows.{width-bound, lowest-bound}
 use Rattle.passes.proofs.PassWays.{Visited, visited-start, visited-length, visited-few, visited-kept, visited-open, visited-end}
 use Rattle.passes.proofs.row.Statement.{statement}

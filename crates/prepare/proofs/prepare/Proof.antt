@@ -8,7 +8,7 @@ use Rattle.semantics.specs.Handed.{Handed, handed}
 use Rattle.rule.specs.declared.Sorts.the-variants.{Only}
 use Rattle.rule.specs.Form.{Accepted}
 use Rattle.rule.proofs.Programs.{passed-accepted, takes-only}
-use Rattle.prepare.proofs.Preparing.{program-refused, length-refused, rest-left, Sized, lengths-passed, total-is, settled}
+use Rattle.prepare.proofs.Preparing.{program-refused, length-refused, rest-left, LengthsFit, lengths-passed, total-is, settled}
 use borrow.Author.Needs.{needs}
 use Rattle.prepare.proofs.prepare.Statement.{statement}
 use Rattle.prepare.proofs.prepare.Tie as tie
@@ -28,8 +28,8 @@ accepted c =
     (w .0, rw (takes-only (start .args .sort) _ (w .2)) at (w .1))
 
 -- lengths that pass the check are those of traces
-long : (c : tie.After-guards) → Sized (handedAt (c .before .before .before .before .before .before .before .before .before .before .before .before .before))
-long c = lengths-passed (handedAt (c .before .before .before .before .before .before .before .before .before .before .before .before .before)) (c .before .before .before .before .before .lengths-check .ensures) (c .before .before .before .enum-told2 .given .1)
+lengths-fit : (c : tie.After-guards) → LengthsFit (handedAt (c .before .before .before .before .before .before .before .before .before .before .before .before .before))
+lengths-fit c = lengths-passed (handedAt (c .before .before .before .before .before .before .before .before .before .before .before .before .before)) (c .before .before .before .before .before .lengths-check .ensures) (c .before .before .before .enum-told2 .given .1)
 
 check-sorts-requires : tie.Need-check-sorts-requires
 check-sorts-requires c κs = search needs
@@ -56,10 +56,10 @@ enum-told-2 : tie.Need-enum-told-2
 enum-told-2 c = search needs
 
 cast-t24 : tie.Need-cast-t24
-cast-t24 c = omega (arith, long c .few .0)
+cast-t24 c = omega (arith, lengths-fit c .few .0)
 
 cast-t25 : tie.Need-cast-t25
-cast-t25 c = omega (arith, long c .few .1)
+cast-t25 c = omega (arith, lengths-fit c .few .1)
 
 cells-of-requires : tie.Need-cells-of-requires
 cells-of-requires c κs = search needs
@@ -103,7 +103,7 @@ returns-3 c =
     let judged = c .before .before .before .before .before .before .before .before .before .before .before .before .before .before .before .before .check-sorts .ensures in
     let lengths = c .before .before .before .before .before .before .before .before .before .before .before .before .lengths-check .ensures in
     let known = c .before .before .before .before .before .before .before .before .before .before .enum-told2 .given .1 in
-    let fit = long (c .before .before .before .before .before .before .before) in
+    let fit = lengths-fit (c .before .before .before .before .before .before .before) in
     let places = c .before .before .before .cells-of .ensures in
     let total = total-is h program (judged .1) fit (places .0) (places .1) in
     let ram = c .before .before .padding-set in

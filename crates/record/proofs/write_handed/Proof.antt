@@ -11,12 +11,12 @@ use Rattle.semantics.specs.declared.Sort.the-variants.{One, Two}
 use Rattle.semantics.specs.Handed.{Handed, handed}
 use Rattle.rule.specs.Form.{AreBytes}
 use Rattle.prepare.specs.Checks.{evaluateCheck}
-use Rattle.prepare.proofs.Preparing.{Sized}
+use Rattle.prepare.proofs.Preparing.{LengthsFit}
 use Rattle.layout.specs.Form.{resultBytes}
 use Rattle.record.specs.Recording.{workedOut, recordOf, writeCheck}
 use Rattle.record.specs.Steps.{besideBytes}
 use Rattle.record.proofs.Answers.{evaluation-refused, evaluation-passed}
-use Rattle.record.proofs.Recorded.{traces-long}
+use Rattle.record.proofs.Recorded.{lengths-fit}
 use Rattle.record.proofs.Writing.{size-is, evaluation-first, room-last, room-enough, refused-written, refused-table, passed-written, written-owed, filled-written}
 use Rattle.record.proofs.write_handed.Statement.{statement}
 use Rattle.record.proofs.write_handed.Tie as tie
@@ -83,10 +83,10 @@ are-bytes w i =
     let known = summed w .before .before .before .before .before .before in
     omega (arith, known .shared-slice-known .given i)
 
-long : (w : tie.After-verdict) → Sized (traces (start w))
-long w =
+fit : (w : tie.After-verdict) → LengthsFit (traces (start w))
+fit w =
     let a = start w .args in
-    traces-long (a .program .now) (traces (start w)) (length (a .table .now)) (length (a .out .now)) (are-bytes w) (passes w)
+    lengths-fit (a .program .now) (traces (start w)) (length (a .table .now)) (length (a .out .now)) (are-bytes w) (passes w)
 
 -- ---- The needs
 
@@ -144,10 +144,10 @@ enum-known-verdict : tie.Need-enum-known-verdict
 enum-known-verdict c = search needs
 
 cast-fill : tie.Need-cast-fill
-cast-fill c = record { fits = omega (arith, long (c .before) .few) }
+cast-fill c = record { fits = omega (arith, fit (c .before) .few) }
 
 cast-fill-2 : tie.Need-cast-fill-2
-cast-fill-2 c = record { fits = omega (arith, long (c .before) .few) }
+cast-fill-2 c = record { fits = omega (arith, fit (c .before) .few) }
 
 fill-requires : tie.Need-fill-requires
 fill-requires c κs = search needs

@@ -1,4 +1,4 @@
--- `call` meets its contract, by the callee's result kind and the number of its arguments.
+-- `call` meets its contract: it hands on the sort and the number of arguments that it is told.
 use borrow.Author.Needs.{needs}
 use Rattle.decoding.proofs.program.call.Statement.{statement}
 use Rattle.decoding.proofs.program.call.Tie as tie

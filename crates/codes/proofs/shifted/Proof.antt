@@ -1,8 +1,8 @@
--- `guarded` meets its contract, by its two cases.
+-- `shifted` meets its contract, by its two cases.
 use borrow.Author.Tests.{lt-ltb, le-ltb}
 use borrow.Author.Needs.{needs}
-use Rattle.codes.proofs.guarded.Statement.{statement}
-use Rattle.codes.proofs.guarded.Tie as tie
+use Rattle.codes.proofs.shifted.Statement.{statement}
+use Rattle.codes.proofs.shifted.Tie as tie
 
 returns : tie.Need-returns
 returns c = simp (lt-ltb _ _ (c .if1 .taken))
@@ -13,5 +13,5 @@ add-result c = search needs
 returns-2 : tie.Need-returns-2
 returns-2 c = simp (le-ltb _ _ (c .if1 .left))
 
-pub guarded-spec : {M : Type 1} → statement M
-guarded-spec = tie.close (tie.spec returns add-result returns-2)
+pub shifted-spec : {M : Type 1} → statement M
+shifted-spec = tie.close (tie.spec returns add-result returns-2)
