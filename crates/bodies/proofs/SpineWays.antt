@@ -7,26 +7,26 @@
 --   plain-constant     a parameter or a constant, by its sort
 --   plain-leaf         that it is a leaf
 --   leaf-at            a leaf as an argument
---   call-at, call-one-at
+--   call-leaves-at, call-one-at
 use mathlib.Core.Path.{_≡_, refl, sym, ap, _∙_}
 use mathlib.Core.Bool.{Bool, true, false}
 use mathlib.Core.List.{List}
-use Prim.Native.Nat.{ℕ, zero, suc, _-_, _%_, _<_}
+use Prim.Native.Nat.{ℕ, zero, suc, _-_, _<_}
 use native.Mathlib.Numerals.{sub-one}
 use native.Mathlib.Omega.{arith}
 use lib.Dec.{eqb}
 use lib.ListN.{getD}
-use borrow.Author.Tests.{le-ltb, eq-eqb, ne-eqb, eqb-true, eqb-false}
-use Rattle.codes.specs.{guardShift, nullOf}
-use Rattle.decoding.specs.Words.{sortOf, constantOf, thirdPlace, callSort, callOneSort}
-use Rattle.evaluator.specs.{paramIn, branchBy, sortBy, evalWord, evalAt, branchAt, callAt, callOneAt}
+use borrow.Author.Tests.{eq-eqb, ne-eqb, eqb-true, eqb-false}
+use Rattle.codes.specs.{hasSamples, nullOf}
+use Rattle.decoding.specs.Words.{sortOf, constantOf, thirdPlace, callOneSort, callLeavesSort}
+use Rattle.evaluator.specs.{paramIn, branchBy, sortBy, evalWord, evalAt, branchAt, callOneAt, callLeavesAt}
 use Rattle.bodies.specs.{sortAt, noLeaf, Leaf, plainBy}
 use Rattle.evaluator.proofs.EvalWays.{eval-sort, branch-false}
 use Rattle.evaluator.proofs.NodeMeaning.{word-sort}
 
 -- null of a list that is not empty
-null-long : (v : ℕ) → 5 < v % guardShift → nullOf v ≡ 1
-null-long v h = simp (le-ltb v 5 (omega arith), ne-eqb (v % guardShift) 5 (λ e. omega arith))
+null-long : (v : ℕ) → hasSamples v ≡ true → nullOf v ≡ 1
+null-long v h = simp h
 
 module _ (W traces T env : List ℕ) (d w : ℕ) where
   pub sort-at : 0 < d → {sort : ℕ} → sort ≡ sortOf w → evalWord W traces T env d w ≡ sortAt W traces T env (d - 1) w sort
@@ -43,15 +43,15 @@ module _ (W traces T env : List ℕ) (d w : ℕ) where
       ∙ ap (λ (v : ℕ). branchBy (evalAt W traces T env d) w (f v)) (sym q)
 
   -- where the list is not empty, the branch for False is chosen
-  pub branch-long : (v : ℕ) {x : ℕ} → 5 < v % guardShift → x ≡ getD W (thirdPlace w) 0
+  pub branch-long : (v : ℕ) {x : ℕ} → hasSamples v ≡ true → x ≡ getD W (thirdPlace w) 0
       → branchAt W traces T env d w (nullOf v) ≡ evalWord W traces T env d x
   branch-long v h q =
       let no : nullOf v ≡ 1 = null-long v h in
       branch-false W traces T env d w (nullOf v) (λ yes. let z : _≡_ {A = ℕ} 1 2 = sym no ∙ yes in omega arith) no q
 
-  pub call-at : 0 < d → sortOf w ≡ callSort → evalWord W traces T env d w ≡ callAt W traces T env (d - 1) w
-  unfolding callAt
-  call-at h e = eval-sort W traces T env d w (λ z. omega arith) callSort refl e
+  pub call-leaves-at : 0 < d → {sort : ℕ} → sort ≡ sortOf w → sort ≡ callLeavesSort → evalWord W traces T env d w ≡ callLeavesAt W traces T env w
+  unfolding callLeavesAt
+  call-leaves-at h e q = eval-sort W traces T env d w (λ z. omega arith) callLeavesSort e q
 
   pub call-one-at : 0 < d → sortOf w ≡ callOneSort → evalWord W traces T env d w ≡ callOneAt W traces T env (d - 1) w
   unfolding callOneAt

@@ -6,10 +6,10 @@ use decoding::functions::FUNCTIONS;
 use decoding::functions::STRIDE;
 use decoding::functions::WORDS;
 use decoding::nodes;
+use evaluator::call_leaves;
 use evaluator::digit;
 use evaluator::eval;
 use evaluator::lookup;
-use evaluator::next_index;
 use evaluator::param;
 ghost use mathlib.Core.Path.{_≡_};
 ghost use Prim.Native.Nat.{_<_, _≤_};
@@ -61,8 +61,8 @@ fn take(
     if sort == nodes::CALL_ONE {
         return call_one(words, traces, table, env, depth, node);
     }
-    if sort == nodes::CALL {
-        return call(words, traces, table, env, depth, node);
+    if sort == nodes::CALL_LEAVES {
+        return call_leaves(words, traces, table, env, node);
     }
     eval(words, traces, table, env, depth, node)
 }
@@ -82,7 +82,7 @@ fn conditional(
 {
     let value = param(env, node);
     if sort == nodes::IF_NULL {
-        if codes::SUFFIX < value % codes::GUARD_SHIFT {
+        if codes::has_samples(value) {
             return take(words, traces, table, env, depth, nodes::third(words, node));
         }
         return branch(words, traces, table, env, depth, node, codes::null(value));
@@ -121,40 +121,6 @@ fn branch(
         return take(words, traces, table, env, depth, nodes::third(words, node));
     }
     chosen
-}
-
-// A call whose result is no guard list, if its arguments are leaves.
-fn call(
-    words: &[u64; WORDS],
-    traces: &[u8; codes::TRACES_BYTES],
-    table: &&[u16],
-    env: &[u16; 6],
-    depth: u8,
-    node: u64,
-) -> u16
-    requires { ⌜ (1 < depth) × (sortOf node ≡ callSort) ⌝ }
-    ensures { λ r. ⌜ r ≡ evalWord (now (words .entry)) (now (traces .entry)) (now (now (table .entry))) (now (env .entry)) depth node ⌝ }
-{
-    let place = FUNCTIONS + STRIDE * nodes::callee(node);
-    let count = nodes::count(node);
-    let mut rest = nodes::places(node);
-    let mut index: u64 = 0;
-    let mut i: u64 = 0;
-    while i < count {
-        let value = leaf(traces, env, nodes::at(words, rest));
-        if value == NO_LEAF {
-            return eval(words, traces, table, env, depth, node);
-        }
-        let kind = words[place + 1 + i as usize];
-        let digit = digit(kind, value);
-        if functions::values(kind) <= digit {
-            return value;
-        }
-        index = next_index(index, functions::values(kind), digit);
-        rest = rest / 4096;
-        i += 1;
-    }
-    lookup(words[place], table, index)
 }
 
 // A call with one argument whose result is no guard list, if the argument is a leaf.

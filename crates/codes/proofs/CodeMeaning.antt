@@ -19,7 +19,7 @@ use mathlib.Core.List.{List}
 use mathlib.Core.Option.{Option, none, some}
 use lib.ListN.{length, getD}
 use lib.Dec.{T, leb, eqb}
-use borrow.Author.Tests.{lt-ltb, le-ltb, lt-leb, ne-eqb, leb-true, leb-false}
+use borrow.Author.Tests.{lt-ltb, le-ltb, lt-leb, leb-true, leb-false}
 use Rattle.trace.specs.{mostSamples}
 use Rattle.semantics.specs.declared.Contact.{Contact}
 use Rattle.semantics.specs.declared.Contact.the-variants.{Ram, Guard}
@@ -34,7 +34,7 @@ use Rattle.semantics.specs.Bodies.{withValue, operated}
 use Rattle.semantics.proofs.Demands.{same-contact, suffix-in, ofDemand, demand-kind}
 use Rattle.syntax.specs.Kinds.{guardKind, kindNumber}
 use Rattle.codes.specs.declared.Lengths.{Lengths}
-use Rattle.codes.specs.{guardShift, guardCode, workingOf, mostTraceBytes, sampleCode, ramOffset, guardOffset, originOf, placeOf, emptyCode, headOf, tailOf, nullOf, radixOf, lowestCode, foreign, leastCode, mostCode, decidedCode, shiftedCode, cellCode}
+use Rattle.codes.specs.{guardShift, guardCode, workingOf, mostTraceBytes, sampleCode, ramOffset, guardOffset, originOf, placeOf, hasSamples, headOf, tailOf, nullOf, radixOf, lowestCode, foreign, leastCode, mostCode, decidedCode, shiftedCode, cellCode}
 
 -- ---- Traces
 
@@ -82,17 +82,9 @@ workingContent (some o) = workingOf o
 
 -- ---- Operations on a list
 
-suffix-least : (c : Contact) (k : ℕ) → suffixCode ≤ workingOf (Suffix c k)
-suffix-least Ram k = omega arith
-suffix-least Guard k = omega arith
-
-is-empty : (c : Contact) → emptyCode (workingOf (Suffix c zero)) ≡ true
-is-empty Ram = refl
-is-empty Guard = refl
-
-not-empty : (c : Contact) (k : ℕ) → suc k ≤ mostSamples → emptyCode (workingOf (Suffix c (suc k))) ≡ false
-not-empty Ram k h = ne-eqb ((suffixCode + suc k) % guardShift) suffixCode (λ z. omega arith)
-not-empty Guard k h = ne-eqb ((guardCode + suc k) % guardShift) suffixCode (λ z. omega arith)
+some-samples : (c : Contact) (k : ℕ) → suc k ≤ mostSamples → hasSamples (workingOf (Suffix c (suc k))) ≡ true
+some-samples Ram k h = lt-ltb suffixCode ((suffixCode + suc k) % guardShift) (omega arith)
+some-samples Guard k h = lt-ltb suffixCode ((guardCode + suc k) % guardShift) (omega arith)
 
 one-less : (c : Contact) (k : ℕ) → workingOf (Suffix c (suc k)) - 1 ≡ workingOf (Suffix c k)
 one-less Ram k = omega arith
@@ -122,10 +114,11 @@ module _ (t : Traces) (short : ShortTraces t) where
         → headOf bytes env (workingContent r) ≡ workingContent (withValue Failed r (operated t hd))
     head-means none h = refl
     head-means (some (Truth b)) h = absurd (h (Truth b) refl)
-    head-means (some (Suffix c zero)) h = rw (le-ltb _ _ (suffix-least c zero), is-empty c)
+    head-means (some (Suffix Ram zero)) h = refl
+    head-means (some (Suffix Guard zero)) h = refl
     head-means (some (Suffix c (suc k))) h =
         let l = within c (suc k) (h (Suffix c (suc k)) refl) in
-        rw (le-ltb _ _ (suffix-least c (suc k)), not-empty c k (l .1), place-there c k (omega (arith, l .1)) (l .0))
+        rw (some-samples c k (l .1), place-there c k (omega (arith, l .1)) (l .0))
         (says c (length (traceOf t c) - suc k) (omega (arith, l .0)) ∙ truth-code (getD (traceOf t c) (length (traceOf t c) - suc k) false))
     head-means (some (Failed Head)) h = refl
     head-means (some (Failed Tail)) h = refl
@@ -133,18 +126,19 @@ module _ (t : Traces) (short : ShortTraces t) where
   pub tail-means : (r : Option Outcome) → OfDemand t anyList r → tailOf (workingContent r) ≡ workingContent (withValue Failed r (operated t tl))
   tail-means none h = refl
   tail-means (some (Truth b)) h = absurd (h (Truth b) refl)
-  tail-means (some (Suffix c zero)) h = rw (le-ltb _ _ (suffix-least c zero), is-empty c)
+  tail-means (some (Suffix Ram zero)) h = refl
+  tail-means (some (Suffix Guard zero)) h = refl
   tail-means (some (Suffix c (suc k))) h =
-      rw (le-ltb _ _ (suffix-least c (suc k)), not-empty c k (within c (suc k) (h (Suffix c (suc k)) refl) .1)) (one-less c k)
+      rw (some-samples c k (within c (suc k) (h (Suffix c (suc k)) refl) .1)) (one-less c k)
   tail-means (some (Failed Head)) h = refl
   tail-means (some (Failed Tail)) h = refl
 
   pub null-means : (r : Option Outcome) → OfDemand t anyList r → nullOf (workingContent r) ≡ workingContent (withValue Failed r (operated t null))
   null-means none h = refl
   null-means (some (Truth b)) h = absurd (h (Truth b) refl)
-  null-means (some (Suffix c zero)) h = rw (le-ltb _ _ (suffix-least c zero), is-empty c)
-  null-means (some (Suffix c (suc k))) h =
-      rw (le-ltb _ _ (suffix-least c (suc k)), not-empty c k (within c (suc k) (h (Suffix c (suc k)) refl) .1))
+  null-means (some (Suffix Ram zero)) h = refl
+  null-means (some (Suffix Guard zero)) h = refl
+  null-means (some (Suffix c (suc k))) h = rw (some-samples c k (within c (suc k) (h (Suffix c (suc k)) refl) .1))
   null-means (some (Failed Head)) h = refl
   null-means (some (Failed Tail)) h = refl
 

@@ -56,21 +56,22 @@ originOf env c = getD env (4 + c / guardShift % 2) 0
 abbrev pub placeOf : ℕ → ℕ → ℕ
 placeOf origin c = (origin + 65536 - c) % 65536
 
--- whether a number is that of an empty list
-abbrev pub emptyCode : ℕ → Bool
-emptyCode c = eqb (c % guardShift) suffixCode
+-- whether a number is that of a list that is not empty
+abbrev pub hasSamples : ℕ → Bool
+hasSamples c = ltb suffixCode (c % guardShift)
 
--- undecided and errors go through
+-- undecided and errors go through, and the empty list gives what is said
+abbrev pub throughOr : ℕ → ℕ → ℕ
+throughOr c empty = cond (ltb c suffixCode) c empty
+
 abbrev pub headOf : List ℕ → List ℕ → ℕ → ℕ
-headOf traces env c =
-    cond (ltb c suffixCode) c
-    (cond (emptyCode c) headCode (sampleCode traces (placeOf (originOf env c) c)))
+headOf traces env c = cond (hasSamples c) (sampleCode traces (placeOf (originOf env c) c)) (throughOr c headCode)
 
 abbrev pub tailOf : ℕ → ℕ
-tailOf c = cond (ltb c suffixCode) c (cond (emptyCode c) tailCode (c - 1))
+tailOf c = cond (hasSamples c) (c - 1) (throughOr c tailCode)
 
 abbrev pub nullOf : ℕ → ℕ
-nullOf c = cond (ltb c suffixCode) c (cond (emptyCode c) trueCode falseCode)
+nullOf c = cond (hasSamples c) falseCode (throughOr c trueCode)
 
 -- lengths that traces can have
 abbrev pub Short : Lengths → Type 0

@@ -2,7 +2,7 @@
 // says of which trace it is; in a cell its function's kind does. Every function answers for all numbers.
 ghost use mathlib.Core.Path.{_≡_};
 ghost use Prim.Native.Nat.{min};
-ghost use Rattle.codes.specs.{headOf, placeOf, emptyCode, tailOf, nullOf, decidedCode, shiftedCode, cellCode, lengthOf, radixOf, sampleCode, leastCode, mostCode, lowestCode};
+ghost use Rattle.codes.specs.{headOf, placeOf, hasSamples, throughOr, tailOf, nullOf, decidedCode, shiftedCode, cellCode, lengthOf, radixOf, sampleCode, leastCode, mostCode, lowestCode};
 
 // The numbers of outcomes; a suffix of length k of the ram trace is SUFFIX + k, of the guard trace GUARD_SUFFIX + k.
 pub const UNDECIDED: u16 = 0;
@@ -43,16 +43,13 @@ pub struct Lengths {
 pub fn head(traces: &[u8; TRACES_BYTES], env: &[u16; 6], operand: u16) -> u16
     ensures { λ r. ⌜ r ≡ headOf (now (traces .entry)) (now (env .entry)) operand ⌝ }
 {
-    if operand < SUFFIX {
-        return operand;
+    if has_samples(operand) {
+        return sample(
+            traces,
+            place(env[4 + ((operand / GUARD_SHIFT) % 2) as usize], operand),
+        );
     }
-    if is_empty(operand) {
-        return HEAD;
-    }
-    sample(
-        traces,
-        place(env[4 + ((operand / GUARD_SHIFT) % 2) as usize], operand),
-    )
+    through_or(operand, HEAD)
 }
 
 // The place of the oldest sample of a suffix, by the origin of its contact.
@@ -82,27 +79,34 @@ fn wide(byte: u8) -> u16
 pub fn tail(operand: u16) -> u16
     ensures { λ r. ⌜ r ≡ tailOf operand ⌝ }
 {
-    if operand < SUFFIX {
-        return operand;
+    if has_samples(operand) {
+        return operand - 1;
     }
-    if is_empty(operand) { TAIL } else { operand - 1 }
+    through_or(operand, TAIL)
 }
 
 // null of what its operand gave.
 pub fn null(operand: u16) -> u16
     ensures { λ r. ⌜ r ≡ nullOf operand ⌝ }
 {
-    if operand < SUFFIX {
-        return operand;
+    if has_samples(operand) {
+        return FALSE;
     }
-    if is_empty(operand) { TRUE } else { FALSE }
+    through_or(operand, TRUE)
 }
 
-// Whether a number is that of an empty list.
-pub fn is_empty(operand: u16) -> bool
-    ensures { λ r. ⌜ r ≡ emptyCode operand ⌝ }
+// Whether a number is that of a list that is not empty. One comparison tells it from the empty list, undecided and errors.
+pub fn has_samples(operand: u16) -> bool
+    ensures { λ r. ⌜ r ≡ hasSamples operand ⌝ }
 {
-    operand % GUARD_SHIFT == SUFFIX
+    SUFFIX < operand % GUARD_SHIFT
+}
+
+// What is given for all else: undecided and errors go through, and for the empty list it is `empty`.
+fn through_or(operand: u16, empty: u16) -> u16
+    ensures { λ r. ⌜ r ≡ throughOr operand empty ⌝ }
+{
+    if operand < SUFFIX { operand } else { empty }
 }
 
 // What a cell holds: a number that is not from `least` to `most` is no outcome of its kind, and counts as undecided.

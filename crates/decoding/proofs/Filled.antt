@@ -1,10 +1,11 @@
 -- What the words of an evaluation hold:
---   node-filled                       at each place of a program the decoding of the byte there over these very words
+--   after, after-kept                 the words after a place, as they stood when it was decoded: they stay
+--   node-filled                       at each place of a program the decoding of the byte there over the words after it
 --   function-filled, param-filled     for each function its own word, and one for each parameter
-use Prim.Native.Nat.{ℕ, _+_, _-_, _*_, _/_, _%_, _<_, _≤_}
+use Prim.Native.Nat.{ℕ, suc, _+_, _-_, _*_, _/_, _%_, _<_, _≤_}
 use native.Mathlib.Nat.{min-eq-left, min-eq-right}
 use native.Mathlib.Omega.{arith}
-use mathlib.Core.Path.{_≡_, _∙_}
+use mathlib.Core.Path.{_≡_, sym, _∙_}
 use mathlib.Core.List.{List}
 use lib.ListN.{length, getD, replicate}
 use borrow.Author.Tests.{ne-eqb}
@@ -13,7 +14,7 @@ use Rattle.syntax.specs.Kinds.{kindIn}
 use Rattle.codes.specs.declared.Lengths.{Lengths}
 use Rattle.decoding.specs.Words.{functionsFrom, stride, mostWords, functionWord, kindWord}
 use Rattle.decoding.specs.Decoding.{endsDown, wordBy, wordsDown, entryOf, entriesUpto, wordsFilled}
-use Rattle.decoding.proofs.Sweep.{words-above, word-there, entries-length, entry-there}
+use Rattle.decoding.proofs.Sweep.{words-above, words-from, word-there, entries-length, entry-there}
 
 -- ---- Entries
 
@@ -47,13 +48,27 @@ module _ (code params functions : List ℕ) (count : ℕ) (n : Lengths) (z : Lis
   unfolding wordsFilled
   whole = rw (min-eq-right short, min-eq-left few)
 
+  -- the words after a place, as they stood when it was decoded
+  abbrev pub after : ℕ → List ℕ
+  after at = wordsDown code params functions zeros (length code - (at + 1)) (at + 1) (entriesUpto functions n (stride * count) z)
+
+  pub after-kept : (at : ℕ) → at < length code → (p : ℕ) → at < p → getD (after at) p 0 ≡ getD words p 0
+  after-kept at h p l =
+      let all : at + 1 + (length code - (at + 1)) ≡ length code = omega arith in
+      let from : 0 + (at + 1) ≡ at + 1 = omega arith in
+      let k = words-from code params functions zeros (at + 1) (length code - (at + 1)) 0 (entriesUpto functions n (stride * count) z) p (omega arith) in
+      rw whole (sym (rw (all, from) at k))
+
   pub node-filled : (at : ℕ) → at < length code
-      → getD words at 0 ≡ wordBy code params functions (endsDown code params (length code - (at + 1)) (at + 1) zeros) words at
+      → getD words at 0 ≡ wordBy code params functions (endsDown code params (length code - (at + 1)) (at + 1) zeros) (after at) at
   node-filled at h =
-      let room : 0 + length code ≤ length (entriesUpto functions n (stride * count) z) = omega (arith, entries-length functions n (stride * count) z) in
-      let same : 0 + length code ≡ length code = omega arith in
+      let all : at + suc (length code - (at + 1)) ≡ length code = omega arith in
+      let from : 0 + at ≡ at = omega arith in
+      let entries = entriesUpto functions n (stride * count) z in
+      let k = words-from code params functions zeros at (suc (length code - (at + 1))) 0 entries at (omega arith) in
       rw whole
-      (rw same at (word-there code params functions zeros (length code) 0 (entriesUpto functions n (stride * count) z) at room (omega arith) (omega arith)))
+      (rw (all, from) at k
+      ∙ word-there code params functions zeros (length code - (at + 1)) at entries (omega (arith, entries-length functions n (stride * count) z)))
 
   entry-filled : (k : ℕ) → k < stride * count → getD words (functionsFrom + k) 0 ≡ entryOf functions n k
   entry-filled k h =

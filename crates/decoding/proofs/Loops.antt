@@ -1,10 +1,12 @@
 -- Laws of decoding, for each loop of the code its start, a turn, its end:
 --   after-more, after-whole                                the operands of a node, passed one after the other
+--   leaves-stop, leaves-more, leaves-whole                 whether they are leaves
 --   Swept, swept-start, swept-more, swept-whole            the words and the ends, from the last place down
 --   Entered, entered-start, entered-more, entered-whole    the words of functions
-use mathlib.Core.Path.{_≡_, refl}
+use mathlib.Core.Path.{_≡_, refl, sym, ap, _∙_}
+use mathlib.Core.Bool.{Bool, true, false}
 use mathlib.Core.List.{List}
-use Prim.Native.Nat.{ℕ, zero, suc, _+_, _-_, _<_, _≤_}
+use Prim.Native.Nat.{ℕ, zero, suc, _+_, _-_, _/_, _%_, _<_, _≤_}
 use native.Mathlib.Numerals.{add-one, sub-one}
 use native.Mathlib.Omega.{arith}
 use lib.ListN.{getD, set, replicate}
@@ -12,8 +14,8 @@ use Rattle.syntax.specs.declared.Node.{Node}
 use Rattle.syntax.specs.Limits.{mostBytes}
 use Rattle.syntax.specs.Bytes.{nodeOf}
 use Rattle.codes.specs.declared.Lengths.{Lengths}
-use Rattle.decoding.specs.Words.{functionsFrom}
-use Rattle.decoding.specs.Decoding.{endAt, endsAfter, operandsOf, endBy, endsDown, decodedBy, wordBy, wordsDown, entryOf, entriesUpto}
+use Rattle.decoding.specs.Words.{functionsFrom, isLeaf}
+use Rattle.decoding.specs.Decoding.{endAt, endsAfter, operandsOf, leavesIn, endBy, endsDown, decodedBy, wordBy, wordsDown, entryOf, entriesUpto}
 
 -- ---- Operands
 
@@ -27,6 +29,27 @@ pub after-whole : (ends : List ℕ) (left place : ℕ) {end : ℕ} → endsAfter
 unfolding endsAfter
 after-whole ends zero place e h = e
 after-whole ends (suc left) place e h = absurd (omega arith)
+
+pub leaves-stop : (words : List ℕ) (left rest : ℕ) {word : ℕ} {whole leaf : Bool} → leavesIn words left rest ≡ whole → 0 < left → word ≡ getD words (rest % 4096) 0
+    → leaf ≡ isLeaf word → leaf ≡ false → whole ≡ false
+unfolding leavesIn
+leaves-stop words zero rest e h q l n = absurd (omega arith)
+leaves-stop words (suc left) rest e h q l n =
+    let other : isLeaf (getD words (rest % 4096) 0) ≡ false = ap isLeaf (sym q) ∙ sym l ∙ n in
+    sym e ∙ simp other
+
+pub leaves-more : (words : List ℕ) (left rest : ℕ) {word : ℕ} {whole leaf : Bool} → leavesIn words left rest ≡ whole → 0 < left → word ≡ getD words (rest % 4096) 0
+    → leaf ≡ isLeaf word → leaf ≡ true → leavesIn words (left - 1) (rest / 4096) ≡ whole
+unfolding leavesIn
+leaves-more words zero rest e h q l y = absurd (omega arith)
+leaves-more words (suc left) rest e h q l y =
+    let leaf : isLeaf (getD words (rest % 4096) 0) ≡ true = ap isLeaf (sym q) ∙ sym l ∙ y in
+    simp sub-one (simp leaf at e)
+
+pub leaves-whole : (words : List ℕ) (left rest : ℕ) {whole : Bool} → leavesIn words left rest ≡ whole → left ≤ 0 → whole ≡ true
+unfolding leavesIn
+leaves-whole words zero rest e h = sym e
+leaves-whole words (suc left) rest e h = absurd (omega arith)
 
 -- ---- The words of a program
 
@@ -45,7 +68,7 @@ module _ (code params functions words₀ : List ℕ) (len : ℕ) where
   swept-start = let none : len - len ≡ 0 = omega arith in record { below = omega arith; ends = rw none; words = rw none }
 
   pub swept-more : (at : ℕ) {ends words : List ℕ} {node : Node} {next word end count : ℕ} → Swept ends words at → 0 < at
-      → node ≡ nodeOf (getD code (at - 1) 0) → next ≡ getD words (at - 1 + 1) 0 → word ≡ decodedBy params functions ends (at - 1 + 1) next node
+      → node ≡ nodeOf (getD code (at - 1) 0) → next ≡ getD words (at - 1 + 1) 0 → word ≡ decodedBy params functions ends words (at - 1 + 1) next node
       → count ≡ operandsOf params node → end ≡ endsAfter ends count (at - 1 + 1)
       → Swept (set ends (at - 1) end) (set words (at - 1) word) (at - 1)
   unfolding endsDown wordsDown endBy wordBy

@@ -1,7 +1,7 @@
 -- What is put into a word is read from it:
 --   sort-packed, param-packed, callee-packed, count-packed,
 --   first-packed, second-packed, third-packed             the fields of a node
---   place-0 to place-3                                    its places, as a call goes through them
+--   places-alike, place-0 to place-3                      its places, as a call goes through them
 --   constant-packed                                       the number of a constant
 --   first-in, held-in                                     a function's first cell, and what a cell of it holds
 --   values-in, lowest-in                                  a parameter's values
@@ -67,6 +67,11 @@ module _ (sort small first second third fourth : ℕ) where
 pub constant-packed : (c : ℕ) → c < 65536 → constantOf (constantBy c) ≡ c
 unfolding packed
 constant-packed c h = omega arith
+
+-- a sort leaves the places as they are
+pub places-alike : (s t small first second third fourth : ℕ) → placesOf (packed s small first second third fourth) ≡ placesOf (packed t small first second third fourth)
+unfolding packed
+places-alike s t small first second third fourth = omega arith
 
 -- ---- Functions
 

@@ -1,7 +1,7 @@
 -- A mirror of the code: the words of a program and its functions. No reader need believe it: proofs/ shows that each place
 -- holds the decoding of the byte there.
 use Prim.Native.Nat.{ℕ, zero, suc, _+_, _-_, _*_, _/_, _%_, min}
-use mathlib.Core.Bool.{cond}
+use mathlib.Core.Bool.{Bool, true, false, cond}
 use mathlib.Core.List.{List}
 use lib.Dec.{ltb, eqb}
 use lib.ListN.{length, getD, set, replicate}
@@ -14,7 +14,7 @@ use Rattle.syntax.specs.Limits.{mostFunctions, mostBytes}
 use Rattle.syntax.specs.Bytes.{nodeOf}
 use Rattle.syntax.specs.Kinds.{guardKind, kindIn}
 use Rattle.rule.specs.Walk.{atMostFour}
-use Rattle.decoding.specs.Words.{constantSort, paramSort, headSort, tailSort, nullSort, headParamSort, tailParamSort, nullParamSort, ifSort, ifParamSort, ifNullSort, ifHeadSort, callSort, callOneSort, callGuardSort, packed, sortOf, paramOf, functionsFrom, stride, functionWord, kindWord}
+use Rattle.decoding.specs.Words.{constantSort, paramSort, headSort, tailSort, nullSort, headParamSort, tailParamSort, nullParamSort, ifSort, ifParamSort, ifNullSort, ifHeadSort, callSort, callOneSort, callGuardSort, callLeavesSort, packed, sortOf, isLeaf, paramOf, placesOf, functionsFrom, stride, functionWord, kindWord}
 
 -- ---- Where expressions end
 
@@ -81,33 +81,41 @@ placed ends sort small first =
 abbrev pub signatureIn : List ℕ → ℕ → ℕ
 signatureIn functions g = getD functions (32 + g) 0
 
--- the sort of a call by the callee's result kind and the number of arguments
-abbrev pub callSortOf : ℕ → ℕ → ℕ
-callSortOf kind count = cond (eqb kind guardKind) callGuardSort (cond (eqb count 1) callOneSort callSort)
+-- whether so many operands are leaves; their places stand in `rest`
+unfoldable pub leavesIn : List ℕ → ℕ → ℕ → Bool
+leavesIn words zero rest = true
+leavesIn words (suc n) rest = cond (isLeaf (getD words (rest % 4096) 0)) (leavesIn words n (rest / 4096)) false
+
+-- the sort of a call by the callee's result kind, the number of arguments and whether they are leaves
+abbrev pub callSortOf : ℕ → ℕ → Bool → ℕ
+callSortOf kind count leaves =
+    cond (eqb kind guardKind) callGuardSort (cond (eqb count 1) callOneSort (cond leaves callLeavesSort callSort))
 
 -- a call of function g with so many arguments
-abbrev pub calledBy : List ℕ → List ℕ → ℕ → ℕ → ℕ → ℕ
-calledBy functions ends count g first =
-    placed ends (callSortOf (kindIn (signatureIn functions (g % 32)) 4) count) (g % 32 + 32 * count) first
+abbrev pub calledBy : List ℕ → List ℕ → List ℕ → ℕ → ℕ → ℕ → ℕ
+calledBy functions ends words count g first =
+    let small = g % 32 + 32 * count in
+    let leaves = leavesIn words count (placesOf (placed ends callSort small first)) in
+    placed ends (callSortOf (kindIn (signatureIn functions (g % 32)) 4) count leaves) small first
 
--- the word of a node: `first` is the place after it, `next` the word there
-abbrev pub decodedBy : List ℕ → List ℕ → List ℕ → ℕ → ℕ → Node → ℕ
-decodedBy params functions ends first next node.False = constantBy falseCode
-decodedBy params functions ends first next node.True = constantBy trueCode
-decodedBy params functions ends first next node.Empty = constantBy suffixCode
-decodedBy params functions ends first next node.EmptyGuard = constantBy guardCode
-decodedBy params functions ends first next (node.Param i) = packed paramSort i 0 0 0 0
-decodedBy params functions ends first next node.Head = unaryBy headSort headParamSort first next
-decodedBy params functions ends first next node.Tail = unaryBy tailSort tailParamSort first next
-decodedBy params functions ends first next node.Null = unaryBy nullSort nullParamSort first next
-decodedBy params functions ends first next node.If = placed ends (conditionalBy next) (paramOf next) first
-decodedBy params functions ends first next node.Cons = constantBy undecidedCode
-decodedBy params functions ends first next (node.Call g) = calledBy functions ends (argumentsOf params g) g first
-decodedBy params functions ends first next node.Unknown = constantBy undecidedCode
+-- the word of a node, by the words and the ends after it: `first` is the place after it, `next` the word there
+abbrev pub decodedBy : List ℕ → List ℕ → List ℕ → List ℕ → ℕ → ℕ → Node → ℕ
+decodedBy params functions ends words first next node.False = constantBy falseCode
+decodedBy params functions ends words first next node.True = constantBy trueCode
+decodedBy params functions ends words first next node.Empty = constantBy suffixCode
+decodedBy params functions ends words first next node.EmptyGuard = constantBy guardCode
+decodedBy params functions ends words first next (node.Param i) = packed paramSort i 0 0 0 0
+decodedBy params functions ends words first next node.Head = unaryBy headSort headParamSort first next
+decodedBy params functions ends words first next node.Tail = unaryBy tailSort tailParamSort first next
+decodedBy params functions ends words first next node.Null = unaryBy nullSort nullParamSort first next
+decodedBy params functions ends words first next node.If = placed ends (conditionalBy next) (paramOf next) first
+decodedBy params functions ends words first next node.Cons = constantBy undecidedCode
+decodedBy params functions ends words first next (node.Call g) = calledBy functions ends words (argumentsOf params g) g first
+decodedBy params functions ends words first next node.Unknown = constantBy undecidedCode
 
 -- the word at a place, by the words and the ends after it
 unfoldable pub wordBy : List ℕ → List ℕ → List ℕ → List ℕ → List ℕ → ℕ → ℕ
-wordBy code params functions ends words at = decodedBy params functions ends (at + 1) (getD words (at + 1) 0) (nodeOf (getD code at 0))
+wordBy code params functions ends words at = decodedBy params functions ends words (at + 1) (getD words (at + 1) 0) (nodeOf (getD code at 0))
 
 -- the words at so many places from a place on, worked out backwards from the last, with the ends
 unfoldable pub wordsDown : List ℕ → List ℕ → List ℕ → List ℕ → ℕ → ℕ → List ℕ → List ℕ

@@ -1,13 +1,16 @@
 -- A mirror of the code: how the words of an evaluation are made and read. No reader need believe it: proofs/ shows that what
 -- is put into a word is read from it.
 use Prim.Native.Nat.{ℕ, _+_, _*_, _/_, _%_}
+use mathlib.Core.Bool.{Bool, true, cond}
+use lib.Dec.{ltb, eqb}
 use Rattle.codes.specs.declared.Lengths.{Lengths}
 use Rattle.codes.specs.{leastCode, mostCode, decidedCode, radixOf, lowestCode}
 
 -- ---- Nodes
 
 -- The sorts of decoded nodes. hd, tl and null of a parameter have sorts of their own; so has an if whose condition is a
--- parameter, or null or hd of one, a call of a function with a guard list result, and any other call with one argument.
+-- parameter, or null or hd of one, a call of a function with a guard list result, any other call with one argument, and of the
+-- rest a call whose arguments are all leaves.
 abbrev pub constantSort : ℕ
 constantSort = 0
 
@@ -53,6 +56,9 @@ callOneSort = 13
 abbrev pub callGuardSort : ℕ
 callGuardSort = 14
 
+abbrev pub callLeavesSort : ℕ
+callLeavesSort = 15
+
 -- A node's word: its sort in bits 0 to 3, a small number in bits 8 to 15, four places of 12 bits above. The small number
 -- is a parameter, or of a call the callee and 32 times the number of arguments. The places are those of the operands, in
 -- their order; of a constant the first two have its number, the lowest 12 bits in the first.
@@ -67,6 +73,10 @@ packed sort small first second third fourth =
 
 abbrev pub sortOf : ℕ → ℕ
 sortOf w = w % 16
+
+-- whether a word is that of a leaf: a constant, a parameter, its hd or its tl
+unfoldable pub isLeaf : ℕ → Bool
+isLeaf w = cond (ltb (sortOf w) headSort) true (cond (eqb (sortOf w) headParamSort) true (eqb (sortOf w) tailParamSort))
 
 abbrev pub paramOf : ℕ → ℕ
 paramOf w = w / 256 % 4

@@ -3,11 +3,11 @@ use crate::functions::WORDS;
 ghost use mathlib.Core.Path.{_≡_};
 ghost use Prim.Native.Nat.{_%_};
 ghost use lib.ListN.{getD};
-ghost use Rattle.decoding.specs.Words.{packed, sortOf, paramOf, calleeOf, countOf, placesOf, constantOf, firstPlace, secondPlace, thirdPlace};
+ghost use Rattle.decoding.specs.Words.{packed, sortOf, isLeaf, paramOf, calleeOf, countOf, placesOf, constantOf, firstPlace, secondPlace, thirdPlace};
 
 // The sorts of decoded nodes. hd, tl and null of a parameter have sorts of their own; so has an if whose
-// condition is a parameter, or null or hd of one, a call of a function with a guard list result, and any other
-// call with one argument.
+// condition is a parameter, or null or hd of one, a call of a function with a guard list result, any other call with
+// one argument, and of the rest a call whose arguments are all leaves.
 pub const CONSTANT: u64 = 0;
 
 pub const PARAM: u64 = 1;
@@ -38,6 +38,8 @@ pub const CALL_ONE: u64 = 13;
 
 pub const CALL_GUARD: u64 = 14;
 
+pub const CALL_LEAVES: u64 = 15;
+
 // A node: its sort in bits 0 to 3, a small number in bits 8 to 15, and four places of 12 bits. The small
 // number is a parameter, or of a call the callee and 32 times the number of arguments. The places are those
 // of the operands, in their order; of a constant the first two have its number, the lowest 12 bits in the first.
@@ -57,6 +59,20 @@ pub fn sort(node: u64) -> u64
     ensures { λ r. ⌜ r ≡ sortOf node ⌝ }
 {
     node % 16
+}
+
+// Whether a node is a leaf: a constant, a parameter, its hd or its tl.
+pub fn is_leaf(node: u64) -> bool
+    ensures { λ r. ⌜ r ≡ isLeaf node ⌝ }
+{
+    let sort = sort(node);
+    if sort < HEAD {
+        return true;
+    }
+    if sort == HEAD_PARAM {
+        return true;
+    }
+    sort == TAIL_PARAM
 }
 
 // The parameter of a node.

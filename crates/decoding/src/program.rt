@@ -11,7 +11,7 @@ ghost use Prim.Native.Nat.{_*_, _<_, _≤_, min};
 ghost use lib.ListN.{length, replicate};
 ghost use Rattle.syntax.specs.Limits.{mostFunctions, mostParams, mostBytes};
 ghost use Rattle.decoding.specs.Words.{stride};
-ghost use Rattle.decoding.specs.Decoding.{endAt, endsAfter, argumentsOf, operandsOf, constantBy, unaryBy, conditionalBy, placed, callSortOf, calledBy};
+ghost use Rattle.decoding.specs.Decoding.{endAt, endsAfter, argumentsOf, operandsOf, constantBy, unaryBy, conditionalBy, placed, leavesIn, callSortOf, calledBy};
 ghost use Rattle.decoding.specs.Decoding.{decodedBy, entryOf, entriesUpto, wordsDown, wordsFilled};
 
 // Where an expression ends that starts past the bytes of a program.
@@ -71,22 +71,23 @@ fn put_nodes(program: &[u8], params: &[u8; 32], functions: &[u64; 96], words: &m
         at -= 1;
         let node = syntax::node_of(program[at]);
         let next = words[at + 1];
-        words[at] = decoded(params, functions, &ends, (at + 1) as u16, next, node);
+        words[at] = decoded(params, functions, &ends, words, (at + 1) as u16, next, node);
         ends[at] = end_after(&ends, operands(params, node), (at + 1) as u16);
     }
 }
 
 // The word of a node, by the place after it, the ends of the expressions from there on and the word there; of a call also by the
-// callee's count in `params` and its signature in `functions`.
+// callee's count in `params`, its signature in `functions` and the words of its arguments.
 fn decoded(
     params: &[u8; 32],
     functions: &[u64; 96],
     ends: &[u16; syntax::MOST_BYTES],
+    words: &[u64; WORDS],
     first: u16,
     next: u64,
     node: Node,
 ) -> u64
-    ensures { λ r. ⌜ r ≡ decodedBy (now (params .entry)) (now (functions .entry)) (now (ends .entry)) first next node ⌝ }
+    ensures { λ r. ⌜ r ≡ decodedBy (now (params .entry)) (now (functions .entry)) (now (ends .entry)) (now (words .entry)) first next node ⌝ }
 {
     match node {
         Node::False => constant(codes::FALSE),
@@ -99,7 +100,7 @@ fn decoded(
         Node::Null => unary(nodes::NULL, nodes::NULL_PARAM, first, next),
         Node::If => with_operands(ends, conditional(next), nodes::param(next) as u64, first),
         Node::Cons => constant(codes::UNDECIDED),
-        Node::Call(g) => call(params, functions, ends, g, first),
+        Node::Call(g) => call(params, functions, ends, words, g, first),
         Node::Unknown => constant(codes::UNDECIDED),
     }
 }
@@ -143,30 +144,48 @@ fn call(
     params: &[u8; 32],
     functions: &[u64; 96],
     ends: &[u16; syntax::MOST_BYTES],
+    words: &[u64; WORDS],
     g: u8,
     first: u16,
 ) -> u64
-    ensures { λ r. ⌜ r ≡ calledBy (now (functions .entry)) (now (ends .entry)) (argumentsOf (now (params .entry)) g) g first ⌝ }
+    ensures { λ r. ⌜ r ≡ calledBy (now (functions .entry)) (now (ends .entry)) (now (words .entry)) (argumentsOf (now (params .entry)) g) g first ⌝ }
 {
     let count = arguments(params, g);
     let result = syntax::kind_at(functions[32 + (g % 32) as usize], 4);
-    with_operands(
-        ends,
-        call_sort(result, count),
-        (g % 32) as u64 + 32 * count,
-        first,
-    )
+    let small = (g % 32) as u64 + 32 * count;
+    let places = nodes::places(with_operands(ends, nodes::CALL, small, first));
+    let sort = call_sort(result, count, leaves(words, count, places));
+    with_operands(ends, sort, small, first)
 }
 
-// The sort of a call, by the callee's result kind and the number of arguments.
-fn call_sort(result: u8, count: u64) -> u64
-    ensures { λ r. ⌜ r ≡ callSortOf result count ⌝ }
+// Whether so many operands are leaves, by their places, the first in the lowest 12 bits.
+fn leaves(words: &[u64; WORDS], count: u64, places: u64) -> bool
+    ensures { λ r. ⌜ r ≡ leavesIn (now (words .entry)) count places ⌝ }
+{
+    let mut left = count;
+    let mut rest = places;
+    while 0 < left {
+        if !nodes::is_leaf(nodes::at(words, rest)) {
+            return false;
+        }
+        rest = rest / 4096;
+        left -= 1;
+    }
+    true
+}
+
+// The sort of a call, by the callee's result kind, the number of arguments and whether they are leaves.
+fn call_sort(result: u8, count: u64, leaves: bool) -> u64
+    ensures { λ r. ⌜ r ≡ callSortOf result count leaves ⌝ }
 {
     if result == syntax::GUARD {
         return nodes::CALL_GUARD;
     }
     if count == 1 {
-        nodes::CALL_ONE
+        return nodes::CALL_ONE;
+    }
+    if leaves {
+        nodes::CALL_LEAVES
     } else {
         nodes::CALL
     }

@@ -29,11 +29,12 @@ use Rattle.rule.proofs.Expressions.{place-below}
 use Rattle.codes.specs.declared.Lengths.{Lengths}
 use Rattle.codes.specs.{guardCode}
 use Rattle.codes.proofs.CodeMeaning.{OfDemand, any-list, workingContent, head-means, tail-means, null-means, resultCode, result-means}
-use Rattle.decoding.specs.Decoding.{endAt, argumentsOf, signatureIn, placed, callSortOf, calledBy, decodedBy, wordBy}
+use Rattle.decoding.specs.Words.{callSort, placesOf}
+use Rattle.decoding.specs.Decoding.{endAt, argumentsOf, signatureIn, placed, leavesIn, callSortOf, calledBy, decodedBy, wordBy}
 use Rattle.decoding.proofs.Ends.{Ends, after-operand, byte-here, bytes-after, byte-within}
 use Rattle.evaluator.specs.{argsIn, evalWord, evalAt}
 use Rattle.evaluator.proofs.Sets.{EnvOf, Sets}
-use Rattle.evaluator.proofs.NodeMeaning.{Stand, Within, stand, constant-word, param-word, opBy, op-word, choice, if-word, call-word}
+use Rattle.evaluator.proofs.NodeMeaning.{Stand, Within, stand, leaves-kept, constant-word, param-word, opBy, op-word, choice, if-word, call-word}
 use Rattle.evaluator.proofs.CallMeaning.{Due, due-first, due-next, args-one, args-none}
 
 append-four : (a b c d : List ℕ) → (a ++ (b ++ c)) ++ d ≡ a ++ (b ++ (c ++ d))
@@ -48,6 +49,12 @@ depth-pos (param i) = omega arith
 depth-pos (op p e) = omega arith
 depth-pos (ifte c a b) = omega arith
 depth-pos (call g xs) = omega arith
+
+-- a call that has arguments is more than one node deep
+args-deep : (P : Program) (Γ : List Kind) (xs : Args) (κs : List Kind) (d : ℕ) → MeetAll P Γ κs xs → depthAll xs ≤ d → 0 < length κs → 0 < d
+unfolding depthAll
+args-deep P Γ noArgs κs d m h l = let none : length κs ≡ 0 = rw m in absurd (omega arith)
+args-deep P Γ (arg e xs) κs d m h l = omega (arith, depth-pos e)
 
 -- each parameter has a value
 value-there : (t : Traces) (Γ : List Kind) (vs : List Value) → InKinds t Γ vs → (i : ℕ) (κ : Kind) → getElem? Γ i ≡ some κ
@@ -91,26 +98,35 @@ module _ (P : Program) (t : Traces) (n : Lengths) (bytes W traces : List ℕ) (s
   record Decoded (at : ℕ) (k : Node) : Type 0 where
     ends : List ℕ
     right : Ends P bytes (at + 1) ends
-    word : getD W at 0 ≡ decodedBy (s .counts) (s .array) ends (at + 1) (getD W (at + 1) 0) k
+    later : List ℕ
+    kept : (p : ℕ) → at + 1 ≤ p → getD later p 0 ≡ getD W p 0
+    word : getD W at 0 ≡ decodedBy (s .counts) (s .array) ends later (at + 1) (getD W (at + 1) 0) k
 
   decoded : (at b : ℕ) (bs : List ℕ) (k : Node) → drop at bytes ≡ b ∷ bs → nodeOf b ≡ k → Decoded at k
   unfolding wordBy
   decoded at b bs k h e =
       let x = s .nodes at (byte-within bytes at h) in
       record {
-        ends = x .0;
-        right = x .1;
-        word = x .2 ∙ ap (λ (y : Node). decodedBy (s .counts) (s .array) (x .0) (at + 1) (getD W (at + 1) 0) y) (ap nodeOf (byte-here bytes at h) ∙ e);
+        ends = x .ends;
+        right = x .right;
+        later = x .later;
+        kept = λ p l. x .kept p (omega arith);
+        word = x .word
+            ∙ ap (λ (y : ℕ). decodedBy (s .counts) (s .array) (x .ends) (x .later) (at + 1) y (nodeOf (getD bytes at 0))) (x .kept (at + 1) (omega arith))
+            ∙ ap (λ (y : Node). decodedBy (s .counts) (s .array) (x .ends) (x .later) (at + 1) (getD W (at + 1) 0) y) (ap nodeOf (byte-here bytes at h) ∙ e);
       }
 
   -- the word of a call, by the callee's result kind and its parameters
-  called-by : (ends : List ℕ) (g : ℕ) (f : Function) (first : ℕ) → getElem? P g ≡ some f → g < 32
-      → calledBy (s .array) ends (argumentsOf (s .counts) g) g first
-      ≡ placed ends (callSortOf (kindNumber (f .result)) (length (f .params))) (g % 32 + 32 * length (f .params)) first
-  called-by ends g f first e below =
+  called-by : (low : ℕ) (ends later : List ℕ) (g : ℕ) (f : Function) (first : ℕ) → getElem? P g ≡ some f → g < 32
+      → length (f .params) ≤ 4 → Within low ends (length (f .params)) first → ((p : ℕ) → low ≤ p → getD later p 0 ≡ getD W p 0)
+      → let small = g % 32 + 32 * length (f .params) in
+      calledBy (s .array) ends later (argumentsOf (s .counts) g) g first
+      ≡ placed ends (callSortOf (kindNumber (f .result)) (length (f .params)) (leavesIn W (length (f .params)) (placesOf (placed ends callSort small first)))) small first
+  called-by low ends later g f first e below few inside kept =
       let kind : kindIn (signatureIn (s .array) (g % 32)) 4 ≡ kindNumber (f .result) =
       ap (λ (k : ℕ). kindIn (signatureIn (s .array) k) 4) (mod-eq-of-lt below) ∙ s .results g f e in
-      rw (s .arguments g f e, kind)
+      let small = g % 32 + 32 * length (f .params) in
+      rw (s .arguments g f e, kind, leaves-kept low ends later W kept (length (f .params)) _ first (stand ends callSort small first low (length (f .params)) few inside) inside)
 
   -- its outcome is that of the word there
   at-word : (d at : ℕ) {w : ℕ} → getD W at 0 ≡ w → eval d at ≡ evalWord W traces T env d w
@@ -140,14 +156,18 @@ module _ (P : Program) (t : Traces) (n : Lengths) (bytes W traces : List ℕ) (s
     module _ (low : ℕ) (ends : List ℕ) (u : Ends P bytes low ends) where
       if-node : (c a b : Expr) (δ : Demand) (at : ℕ) (rest : List ℕ) → low ≤ at → Means c → Means a → Means b → Meets P Γ δ (ifte c a b)
           → drop at bytes ≡ encodeExpr c ++ (encodeExpr a ++ (encodeExpr b ++ rest))
-          → Within ends 3 at
+          → Within low ends 3 at
           × (choice ev (endAt ends at) (endAt ends (endAt ends at)) (ev at) ≡ workingContent (bodyOutcome t calls vs (ifte c a b)))
       unfolding bodyOutcome
       if-node c a b δ at rest l hc ha hb m h =
           let first = after-operand P bytes (s .short) low ends u Γ narrow (only truth) c at _ l (m .0) h in
           let second = after-operand P bytes (s .short) low ends u Γ narrow δ a (endAt ends at) _ (first .above) (m .1) (first .rest) in
           let third = after-operand P bytes (s .short) low ends u Γ narrow δ b (endAt ends (endAt ends at)) rest (second .above) (m .2) (second .rest) in (
-            (omega (arith, first .within, s .short), (omega (arith, second .within, s .short), (omega (arith, third .within, s .short), tt))),
+            (
+              l,
+              omega (arith, first .within, s .short),
+              (first .above, omega (arith, second .within, s .short), (second .above, omega (arith, third .within, s .short), tt)),
+            ),
             branch-means t ev at (endAt ends at) (endAt ends (endAt ends at)) (bodyOutcome t calls vs c) (bodyOutcome t calls vs a)
                 (bodyOutcome t calls vs b) (of-demand c (only truth) (m .0)) (hc (only truth) at _ (m .0) h)
                 (ha δ (endAt ends at) _ (m .1) (first .rest)) (hb δ (endAt ends (endAt ends at)) rest (m .2) (second .rest)),
@@ -155,14 +175,14 @@ module _ (P : Program) (t : Traces) (n : Lengths) (bytes W traces : List ℕ) (s
 
       -- arguments stand at places that fit a word
       args-within : (xs : Args) (κs : List Kind) (at : ℕ) (rest : List ℕ) → low ≤ at → MeetAll P Γ κs xs → drop at bytes ≡ encodeArgs xs ++ rest
-          → Within ends (length κs) at
+          → Within low ends (length κs) at
       unfolding encodeArgs
       args-within noArgs κs at rest l m h = rw m tt
       args-within (arg e xs) κs at rest l m h =
           let here : drop at bytes ≡ encodeExpr e ++ (encodeArgs xs ++ rest) = h ∙ append-assoc (encodeExpr e) (encodeArgs xs) rest in
           let first = after-operand P bytes (s .short) low ends u Γ narrow (only (m .0)) e at (encodeArgs xs ++ rest) l (m .3) here in
           rw (m .2)
-          (omega (arith, first .within, s .short), args-within xs (m .1) (endAt ends at) rest (first .above) (m .4) (first .rest))
+          (l, omega (arith, first .within, s .short), args-within xs (m .1) (endAt ends at) rest (first .above) (m .4) (first .rest))
 
       abbrev MeansAll : Args → Type 0
       MeansAll xs = (g : ℕ) (κs : List Kind) (i index places at : ℕ) (rest : List ℕ) (k : List Value → Option Outcome)
@@ -212,7 +232,7 @@ module _ (P : Program) (t : Traces) (n : Lengths) (bytes W traces : List ℕ) (s
         let after = bytes-after bytes at q in
         let place = after-operand P bytes (s .short) (at + 1) (x .ends) (x .right) Γ narrow (operandDemand p δ) e (at + 1) rest (omega arith) (m .1) after in
         at-word (suc (suc d)) at (x .word)
-        ∙ op-word W traces T env (s .counts) (s .array) (x .ends) p d (at + 1) (omega (arith, place .within, s .short))
+        ∙ op-word W traces T env (s .counts) (s .array) (x .ends) (x .later) p d (at + 1) (omega (arith, place .within, s .short))
         ∙ op-node (eval (suc d)) p e δ (at + 1) rest (λ δ′ to r k w. eval-means e δ′ (suc d) to r k l w) m after
     eval-means (ifte c a b) δ zero at rest m h q = absurd (omega arith)
     eval-means (ifte c a b) δ (suc zero) at rest m h q = absurd (omega (arith, depth-pos c))
@@ -226,7 +246,7 @@ module _ (P : Program) (t : Traces) (n : Lengths) (bytes W traces : List ℕ) (s
         (λ δ′ to r k w. eval-means a δ′ (suc d) to r k la w)
         (λ δ′ to r k w. eval-means b δ′ (suc d) to r k lb w) m
         (bytes-after bytes at q ∙ append-four (encodeExpr c) (encodeExpr a) (encodeExpr b) rest) in
-        at-word (suc (suc d)) at (x .word) ∙ if-word W traces T env (x .ends) d (at + 1) (node .0) ∙ node .1
+        at-word (suc (suc d)) at (x .word) ∙ if-word W traces T env (at + 1) (x .ends) d (at + 1) (node .0) ∙ node .1
     eval-means (call g xs) δ zero at rest m h q = absurd (omega arith)
     eval-means (call g xs) δ (suc d) at rest m h q =
         let l : depthAll xs ≤ d = omega arith in
@@ -236,11 +256,11 @@ module _ (P : Program) (t : Traces) (n : Lengths) (bytes W traces : List ℕ) (s
         let x = decoded at _ _ _ q (node-call below) in
         let after = bytes-after bytes at q in
         let inside = args-within (eval d) (at + 1) (x .ends) (x .right) xs (f .params) (at + 1) rest (omega arith) (m .3) after in
-        at-word (suc d) at (x .word ∙ called-by (x .ends) g f (at + 1) (m .1) below)
-        ∙ call-word W traces T env (x .ends) d g (length (f .params)) (at + 1) below few (kindNumber (f .result))
+        at-word (suc d) at (x .word ∙ called-by (at + 1) (x .ends) (x .later) g f (at + 1) (m .1) below few inside (x .kept))
+        ∙ call-word W traces T env (x .ends) d g (length (f .params)) (at + 1) below few (args-deep P Γ xs (f .params) d (m .3) l) (kindNumber (f .result))
         ∙ ap (λ (k : ℕ). resultCode (kindNumber (f .result)) k)
         (args-mean xs d l (at + 1) (x .ends) (x .right) g (f .params) 0 0 _ (at + 1) rest
-        (calls g) (m .3) (due-first P t n bytes W traces s T g f (m .1)) (omega arith) (stand (x .ends) _ _ (at + 1) (length (f .params)) few inside) after)
+        (calls g) (m .3) (due-first P t n bytes W traces s T g f (m .1)) (omega arith) (stand (x .ends) _ _ (at + 1) (at + 1) (length (f .params)) few inside) after)
         ∙ result-means t (s .samples) (f .result) (bodyOutcome t calls vs (call g xs)) (of-demand (call g xs) (only (f .result)) (f, m .1, allows-own (f .result), m .3))
 
     args-mean : (xs : Args) (d : ℕ) → depthAll xs ≤ d → (low : ℕ) (ends : List ℕ) (u : Ends P bytes low ends) → MeansAll (eval d) low ends u xs

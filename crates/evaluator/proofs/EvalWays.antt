@@ -53,9 +53,9 @@ module _ (W traces T env : List ℕ) (d w : ℕ) where
           ∙ ap (λ (j : ℕ). sortBy W traces T env (evalAt W traces T env j) w k) (sym (sub-one (suc d)))
 
   -- a sort that no node has
-  pub eval-other : (d ≡ 0 → ⊥) → {sort : ℕ} → sort ≡ sortOf w → 15 ≤ sort → evalWord W traces T env d w ≡ 0
+  pub eval-other : (d ≡ 0 → ⊥) → {sort : ℕ} → sort ≡ sortOf w → 16 ≤ sort → evalWord W traces T env d w ≡ 0
   eval-other z {sort} e h =
-      let apart : (k : ℕ) → k < 15 → eqb sort k ≡ false = λ k l. ne-eqb sort k (λ q. omega arith) in
+      let apart : (k : ℕ) → k < 16 → eqb sort k ≡ false = λ k l. ne-eqb sort k (λ q. omega arith) in
       eval-sort z sort e refl
       ∙ simp (
         apart 0 (omega arith),
@@ -73,6 +73,7 @@ module _ (W traces T env : List ℕ) (d w : ℕ) where
         apart 12 (omega arith),
         apart 13 (omega arith),
         apart 14 (omega arith),
+        apart 15 (omega arith),
       )
 
   pub branch-true : (c : ℕ) {v : ℕ} → c ≡ 2 → v ≡ getD W (secondPlace w) 0 → branchAt W traces T env d w c ≡ evalWord W traces T env d v

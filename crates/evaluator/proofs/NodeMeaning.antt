@@ -4,27 +4,28 @@
 --   op-word                hd, tl and null, fused with a parameter or not
 --   if-word                an if, fused with its condition or not
 --   Stand, stand           the places of operands stand in a word
+--   leaves-kept            whether they are leaves, by words that are the same from a place on
 --   call-word              a call, by its callee's result kind
-use Prim.Native.Nat.{ℕ, zero, suc, _+_, _*_, _/_, _%_, _<_, _≤_}
+use Prim.Native.Nat.{ℕ, zero, suc, _+_, _-_, _*_, _/_, _%_, _<_, _≤_}
 use native.Mathlib.Nat.{mod-eq-of-lt}
 use native.Mathlib.Omega.{arith}
 use mathlib.Core.Path.{_≡_, refl, sym, ap, _∙_}
 use mathlib.Core.Bool.{Bool, true, false, cond}
 use mathlib.Core.List.{List}
-use lib.Dec.{eqb}
+use lib.Dec.{ltb, eqb}
 use lib.ListN.{getD}
-use borrow.Author.Tests.{eqb-true}
+use borrow.Author.Tests.{ltb-true, eqb-true, eqb-false}
 use Rattle.semantics.specs.Language.{Op, hd, tl, null}
 use Rattle.semantics.specs.Cells.{falseCode, trueCode}
-use Rattle.codes.specs.{headOf, tailOf, nullOf, shiftedCode}
+use Rattle.codes.specs.{headOf, tailOf, nullOf, shiftedCode, foreign}
 use Rattle.syntax.specs.Kinds.{guardKind}
 use Rattle.codes.proofs.CodeMeaning.{resultCode}
 use Rattle.rule.proofs.NodeBytes.{opNode}
-use Rattle.decoding.specs.Words.{paramSort, headSort, tailSort, nullSort, headParamSort, tailParamSort, nullParamSort, ifSort, ifParamSort, ifNullSort, ifHeadSort, callSort, callOneSort, callGuardSort}
-use Rattle.decoding.specs.Words.{packed, sortOf, paramOf, calleeOf, countOf, placesOf, firstPlace, thirdPlace}
-use Rattle.decoding.specs.Decoding.{endAt, constantBy, unaryBy, conditionalBy, placed, callSortOf, decodedBy}
-use Rattle.decoding.proofs.Packing.{sort-packed, param-packed, callee-packed, count-packed, constant-packed, first-packed, second-packed, third-packed, place-0, place-1, place-2, place-3}
-use Rattle.evaluator.specs.{paramIn, branchBy, argsIn, sortBy, evalWord, evalAt}
+use Rattle.decoding.specs.Words.{constantSort, paramSort, headSort, tailSort, nullSort, headParamSort, tailParamSort, nullParamSort, ifSort, ifParamSort, ifNullSort, ifHeadSort, callSort, callOneSort, callGuardSort, callLeavesSort}
+use Rattle.decoding.specs.Words.{packed, sortOf, isLeaf, paramOf, calleeOf, countOf, placesOf, constantOf, firstPlace, thirdPlace, valuesIn, lowestIn}
+use Rattle.decoding.specs.Decoding.{endAt, constantBy, unaryBy, conditionalBy, placed, leavesIn, callSortOf, decodedBy}
+use Rattle.decoding.proofs.Packing.{sort-packed, param-packed, callee-packed, count-packed, constant-packed, first-packed, second-packed, third-packed, places-alike, place-0, place-1, place-2, place-3}
+use Rattle.evaluator.specs.{paramAt, nextIndex, paramIn, branchBy, argsIn, leafBy, leafAt, sortBy, evalWord, evalAt}
 
 -- ---- Places in a word
 
@@ -33,10 +34,10 @@ abbrev pub Stand : List ℕ → ℕ → ℕ → ℕ → Type 0
 Stand ends zero rest at = Unit {0}
 Stand ends (suc k) rest at = (rest % 4096 ≡ at) × Stand ends k (rest / 4096) (endAt ends at)
 
--- so many operands from a place on stand at places that fit a word
-abbrev pub Within : List ℕ → ℕ → ℕ → Type 0
-Within ends zero at = Unit {0}
-Within ends (suc k) at = (at < 4096) × Within ends k (endAt ends at)
+-- so many operands from a place on stand at places that fit a word, none of them below `low`
+abbrev pub Within : ℕ → List ℕ → ℕ → ℕ → Type 0
+Within low ends zero at = Unit {0}
+Within low ends (suc k) at = (low ≤ at) × (at < 4096) × Within low ends k (endAt ends at)
 
 module _ (ends : List ℕ) (sort small first : ℕ) where
   abbrev second : ℕ
@@ -48,23 +49,32 @@ module _ (ends : List ℕ) (sort small first : ℕ) where
   abbrev fourth : ℕ
   fourth = endAt ends third
 
-  pub stand : (k : ℕ) → k ≤ 4 → Within ends k first → Stand ends k (placesOf (placed ends sort small first)) first
-  stand zero h w = tt
-  stand (suc zero) h w = (place-0 sort small first second third fourth ∙ mod-eq-of-lt (w .0), tt)
-  stand (suc (suc zero)) h w =
-      (place-0 sort small first second third fourth ∙ mod-eq-of-lt (w .0), (place-1 sort small first second third fourth ∙ mod-eq-of-lt (w .1 .0), tt))
-  stand (suc (suc (suc zero))) h w = (
-    place-0 sort small first second third fourth ∙ mod-eq-of-lt (w .0),
-    (place-1 sort small first second third fourth ∙ mod-eq-of-lt (w .1 .0), (place-2 sort small first second third fourth ∙ mod-eq-of-lt (w .1 .1 .0), tt)),
+  pub stand : (low k : ℕ) → k ≤ 4 → Within low ends k first → Stand ends k (placesOf (placed ends sort small first)) first
+  stand low zero h w = tt
+  stand low (suc zero) h w = (place-0 sort small first second third fourth ∙ mod-eq-of-lt (w .1), tt)
+  stand low (suc (suc zero)) h w =
+      (place-0 sort small first second third fourth ∙ mod-eq-of-lt (w .1), (place-1 sort small first second third fourth ∙ mod-eq-of-lt (w .2 .1), tt))
+  stand low (suc (suc (suc zero))) h w = (
+    place-0 sort small first second third fourth ∙ mod-eq-of-lt (w .1),
+    (place-1 sort small first second third fourth ∙ mod-eq-of-lt (w .2 .1), (place-2 sort small first second third fourth ∙ mod-eq-of-lt (w .2 .2 .1), tt)),
   )
-  stand (suc (suc (suc (suc zero)))) h w = (
-    place-0 sort small first second third fourth ∙ mod-eq-of-lt (w .0),
+  stand low (suc (suc (suc (suc zero)))) h w = (
+    place-0 sort small first second third fourth ∙ mod-eq-of-lt (w .1),
     (
-      place-1 sort small first second third fourth ∙ mod-eq-of-lt (w .1 .0),
-      (place-2 sort small first second third fourth ∙ mod-eq-of-lt (w .1 .1 .0), (place-3 sort small first second third fourth ∙ mod-eq-of-lt (w .1 .1 .1 .0), tt)),
+      place-1 sort small first second third fourth ∙ mod-eq-of-lt (w .2 .1),
+      (place-2 sort small first second third fourth ∙ mod-eq-of-lt (w .2 .2 .1), (place-3 sort small first second third fourth ∙ mod-eq-of-lt (w .2 .2 .2 .1), tt)),
     ),
   )
-  stand (suc (suc (suc (suc (suc k))))) h w = absurd (omega arith)
+  stand low (suc (suc (suc (suc (suc k))))) h w = absurd (omega arith)
+
+-- whether operands are leaves hangs on their words alone
+pub leaves-kept : (low : ℕ) (ends later W : List ℕ) → ((p : ℕ) → low ≤ p → getD later p 0 ≡ getD W p 0) → (k rest at : ℕ)
+    → Stand ends k rest at → Within low ends k at → leavesIn later k rest ≡ leavesIn W k rest
+unfolding leavesIn
+leaves-kept low ends later W same zero rest at st w = refl
+leaves-kept low ends later W same (suc k) rest at st w =
+    let here : getD later (rest % 4096) 0 ≡ getD W (rest % 4096) 0 = rw (st .0) (same at (w .0)) in
+    rw (here, leaves-kept low ends later W same k (rest / 4096) (endAt ends at) (st .1) (w .2))
 
 -- what an operation makes of the number of its operand
 abbrev pub opBy : List ℕ → List ℕ → Op → ℕ → ℕ
@@ -123,15 +133,15 @@ module _ (W traces T env : List ℕ) where
             ∙ by-plain (there (suc d)) w
             ∙ ap (λ (p : ℕ). f (there (suc d) p)) (first-packed plain 0 first 0 0 0 ∙ mod-eq-of-lt h)
 
-  pub op-word : (params functions ends : List ℕ) (p : Op) (d first : ℕ) → first < 4096
-      → evalWord W traces T env (suc (suc d)) (decodedBy params functions ends first (getD W first 0) (opNode p)) ≡ opBy traces env p (there (suc d) first)
-  op-word params functions ends hd = unary-word headSort headParamSort (λ (c : ℕ). headOf traces env c) (λ eval w. refl) (λ eval w. refl)
-  op-word params functions ends tl = unary-word tailSort tailParamSort (λ (c : ℕ). tailOf c) (λ eval w. refl) (λ eval w. refl)
-  op-word params functions ends null = unary-word nullSort nullParamSort (λ (c : ℕ). nullOf c) (λ eval w. refl) (λ eval w. refl)
+  pub op-word : (params functions ends later : List ℕ) (p : Op) (d first : ℕ) → first < 4096
+      → evalWord W traces T env (suc (suc d)) (decodedBy params functions ends later first (getD W first 0) (opNode p)) ≡ opBy traces env p (there (suc d) first)
+  op-word params functions ends later hd = unary-word headSort headParamSort (λ (c : ℕ). headOf traces env c) (λ eval w. refl) (λ eval w. refl)
+  op-word params functions ends later tl = unary-word tailSort tailParamSort (λ (c : ℕ). tailOf c) (λ eval w. refl) (λ eval w. refl)
+  op-word params functions ends later null = unary-word nullSort nullParamSort (λ (c : ℕ). nullOf c) (λ eval w. refl) (λ eval w. refl)
 
   -- ---- An if
 
-  module _ (ends : List ℕ) (d first : ℕ) (inside : Within ends 3 first) where
+  module _ (low : ℕ) (ends : List ℕ) (d first : ℕ) (inside : Within low ends 3 first) where
     abbrev then : ℕ
     then = endAt ends first
 
@@ -159,9 +169,9 @@ module _ (W traces T env : List ℕ) where
         let fourth = endAt ends other in
         word-sort (suc d) (word sort) (sort % 16) (sort-packed sort p first then other fourth)
         ∙ by (word sort) (param-packed sort p first then other fourth ∙ param-small condition)
-        (first-packed sort p first then other fourth ∙ mod-eq-of-lt (inside .0))
-        ∙ ap (λ (q : ℕ). choice eval q (thirdPlace (word sort)) (eval first)) (second-packed sort p first then other fourth ∙ mod-eq-of-lt (inside .1 .0))
-        ∙ ap (λ (q : ℕ). choice eval then q (eval first)) (third-packed sort p first then other fourth ∙ mod-eq-of-lt (inside .1 .1 .0))
+        (first-packed sort p first then other fourth ∙ mod-eq-of-lt (inside .1))
+        ∙ ap (λ (q : ℕ). choice eval q (thirdPlace (word sort)) (eval first)) (second-packed sort p first then other fourth ∙ mod-eq-of-lt (inside .2 .1))
+        ∙ ap (λ (q : ℕ). choice eval then q (eval first)) (third-packed sort p first then other fourth ∙ mod-eq-of-lt (inside .2 .2 .1))
 
     -- a condition of the sort `below`, f of a parameter, fused with its if to the sort `sort`
     fused : (sort below : ℕ) (f : ℕ → ℕ) → sortOf condition ≡ below
@@ -193,9 +203,69 @@ module _ (W traces T env : List ℕ) where
     pub if-word : Chooses (conditionalBy condition)
     if-word = by-param (eqb (sortOf condition) paramSort) refl
 
+  -- ---- Leaves
+
+  -- a leaf needs no evaluation of operands
+  module _ (d w : ℕ) (leaf : isLeaf w ≡ true) where
+    abbrev whole : ℕ
+    whole = evalWord W traces T env (suc d) w
+
+    -- a word that is a leaf's, but neither hd nor tl of a parameter
+    plain-sort : (b : Bool) → ltb (sortOf w) headSort ≡ b → cond b true (cond (eqb (sortOf w) headParamSort) true (eqb (sortOf w) tailParamSort)) ≡ true
+        → eqb (sortOf w) headParamSort ≡ false → eqb (sortOf w) tailParamSort ≡ false → sortOf w < headSort
+    plain-sort true t e h l = ltb-true _ _ t
+    plain-sort false t e h l = let z : _≡_ {A = ℕ} 0 1 = cc in absurd (omega arith)
+
+    none-other : eqb (sortOf w) tailParamSort ≡ false → eqb (sortOf w) paramSort ≡ false → eqb (sortOf w) headParamSort ≡ false → sortOf w ≡ constantSort
+    unfolding isLeaf
+    none-other l p h = omega (arith, plain-sort (ltb (sortOf w) headSort) refl leaf h l, eqb-false (sortOf w) paramSort p)
+
+    head-leaf : (b : Bool) → eqb (sortOf w) tailParamSort ≡ false → eqb (sortOf w) paramSort ≡ false → eqb (sortOf w) headParamSort ≡ b
+        → cond b (headOf traces env (paramIn env w)) (constantOf w) ≡ whole
+    head-leaf true l p h = sym (word-sort d w headParamSort (eqb-true _ _ h))
+    head-leaf false l p h = sym (word-sort d w constantSort (none-other l p h))
+
+    param-leaf : (b : Bool) → eqb (sortOf w) tailParamSort ≡ false → eqb (sortOf w) paramSort ≡ b
+        → cond b (paramIn env w) (cond (eqb (sortOf w) headParamSort) (headOf traces env (paramIn env w)) (constantOf w)) ≡ whole
+    param-leaf true l p = sym (word-sort d w paramSort (eqb-true _ _ p))
+    param-leaf false l p = head-leaf (eqb (sortOf w) headParamSort) l p refl
+
+    tail-leaf : (b : Bool) → eqb (sortOf w) tailParamSort ≡ b
+        → cond b (tailOf (paramIn env w))
+        (cond (eqb (sortOf w) paramSort) (paramIn env w) (cond (eqb (sortOf w) headParamSort) (headOf traces env (paramIn env w)) (constantOf w)))
+        ≡ whole
+    tail-leaf true l = sym (word-sort d w tailParamSort (eqb-true _ _ l))
+    tail-leaf false l = param-leaf (eqb (sortOf w) paramSort) l refl
+
+    leaf-word : leafBy traces env w ≡ whole
+    unfolding leafBy
+    leaf-word = tail-leaf (eqb (sortOf w) tailParamSort) refl
+
+  -- arguments that are leaves
+  args-leaves : (d g k i index rest : ℕ) → (0 < k → 0 < d) → leavesIn W k rest ≡ true
+      → argsIn W T (leafAt W traces env) g k i index rest ≡ argsIn W T (there d) g k i index rest
+  unfolding argsIn leavesIn
+  args-leaves d g zero i index rest deep e = refl
+  args-leaves zero g (suc k) i index rest deep e = absurd (omega (arith, deep (omega arith)))
+  args-leaves (suc d) g (suc k) i index rest deep e =
+      go (isLeaf (getD W (rest % 4096) 0)) refl e (λ l next. args-leaves (suc d) g k (i + 1) next (rest / 4096) (λ p. omega arith) l)
+    where
+      go : (b : Bool) → isLeaf (getD W (rest % 4096) 0) ≡ b → cond b (leavesIn W k (rest / 4096)) false ≡ true
+          → (leavesIn W k (rest / 4096) ≡ true → (next : ℕ)
+          → argsIn W T (leafAt W traces env) g k (i + 1) next (rest / 4096) ≡ argsIn W T (there (suc d)) g k (i + 1) next (rest / 4096))
+          → argsIn W T (leafAt W traces env) g (suc k) i index rest ≡ argsIn W T (there (suc d)) g (suc k) i index rest
+      go true t l more =
+          let kind = paramAt W g i in
+          let value = there (suc d) (rest % 4096) in
+          let here : leafAt W traces env (rest % 4096) ≡ value = leaf-word d (getD W (rest % 4096) 0) t in
+          rw here
+          (ap (λ (later : ℕ). cond (foreign (lowestIn kind) (valuesIn kind) value) value later)
+          (more l (nextIndex index (valuesIn kind) (value - lowestIn kind))))
+      go false t l more = let z : _≡_ {A = ℕ} 0 1 = cc in absurd (omega arith)
+
   -- ---- A call
 
-  module _ (ends : List ℕ) (d g count first : ℕ) (below : g < 32) (few : count ≤ 4) where
+  module _ (ends : List ℕ) (d g count first : ℕ) (below : g < 32) (few : count ≤ 4) (deep : 0 < count → 0 < d) where
     abbrev small : ℕ
     small = g % 32 + 32 * count
 
@@ -223,26 +293,42 @@ module _ (W traces T env : List ℕ) where
     Calls sort = evalWord W traces T env (suc d) (called sort) ≡ args sort
 
     -- the callee and the number of arguments that the word says
-    by-word : (sort : ℕ) → argsIn W T (there d) (calleeOf (called sort)) (countOf (called sort)) 0 0 (placesOf (called sort)) ≡ args sort
-    by-word sort =
-        ap (λ (c : ℕ). argsIn W T (there d) c (countOf (called sort)) 0 0 (placesOf (called sort))) (named sort)
-        ∙ ap (λ (c : ℕ). argsIn W T (there d) g c 0 0 (placesOf (called sort))) (counted sort)
+    by-word : (eval : ℕ → ℕ) (sort : ℕ)
+        → argsIn W T eval (calleeOf (called sort)) (countOf (called sort)) 0 0 (placesOf (called sort)) ≡ argsIn W T eval g count 0 0 (placesOf (called sort))
+    by-word eval sort =
+        ap (λ (c : ℕ). argsIn W T eval c (countOf (called sort)) 0 0 (placesOf (called sort))) (named sort)
+        ∙ ap (λ (c : ℕ). argsIn W T eval g c 0 0 (placesOf (called sort))) (counted sort)
 
-    by-count : (b : Bool) → eqb count 1 ≡ b → Calls (cond b callOneSort callSort)
+    -- the places are the same, whatever the sort
+    placed-alike : placesOf (called callSort) ≡ placesOf (called callLeavesSort)
+    placed-alike = places-alike callSort callLeavesSort small first (endAt ends first) (endAt ends (endAt ends first)) (endAt ends (endAt ends (endAt ends first)))
+
+    abbrev leaves : Bool
+    leaves = leavesIn W count (placesOf (called callSort))
+
+    by-leaves : (b : Bool) → leaves ≡ b → Calls (cond b callLeavesSort callSort)
+    by-leaves true e =
+        word-sort d (called callLeavesSort) 15 (sorted callLeavesSort)
+        ∙ by-word (leafAt W traces env) callLeavesSort
+        ∙ args-leaves d g count 0 0 (placesOf (called callLeavesSort)) deep (rw placed-alike at e)
+    by-leaves false e = word-sort d (called callSort) 12 (sorted callSort) ∙ by-word (there d) callSort
+
+    by-count : (b : Bool) → eqb count 1 ≡ b → Calls (cond b callOneSort (cond leaves callLeavesSort callSort))
     by-count true e =
         let one : count ≡ 1 = eqb-true _ _ e in
         word-sort d (called callOneSort) 13 (sorted callOneSort)
         ∙ ap (λ (c : ℕ). argsIn W T (there d) c 1 0 0 (placesOf (called callOneSort))) (named callOneSort)
         ∙ ap (λ (c : ℕ). argsIn W T (there d) g c 0 0 (placesOf (called callOneSort))) (sym one)
-    by-count false e = word-sort d (called callSort) 12 (sorted callSort) ∙ by-word callSort
+    by-count false e = by-leaves leaves refl
 
     by-kind : (b : Bool)
-        → let sort = cond b callGuardSort (cond (eqb count 1) callOneSort callSort) in
+        → let sort = cond b callGuardSort (cond (eqb count 1) callOneSort (cond leaves callLeavesSort callSort)) in
         evalWord W traces T env (suc d) (called sort) ≡ cond b (shiftedCode (args sort)) (args sort)
-    by-kind true = word-sort d (called callGuardSort) 14 (sorted callGuardSort) ∙ ap (λ (c : ℕ). shiftedCode c) (by-word callGuardSort)
+    by-kind true = word-sort d (called callGuardSort) 14 (sorted callGuardSort) ∙ ap (λ (c : ℕ). shiftedCode c) (by-word (there d) callGuardSort)
     by-kind false = by-count (eqb count 1) refl
 
     pub call-word : (kind : ℕ)
-        → let word = placed ends (callSortOf kind count) (g % 32 + 32 * count) first in
+        → let small = g % 32 + 32 * count in
+        let word = placed ends (callSortOf kind count (leavesIn W count (placesOf (placed ends callSort small first)))) small first in
         evalWord W traces T env (suc d) word ≡ resultCode kind (argsIn W T (there d) g count 0 0 (placesOf word))
     call-word kind = by-kind (eqb kind guardKind)

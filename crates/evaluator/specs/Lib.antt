@@ -8,7 +8,7 @@ use lib.Dec.{leb, eqb}
 use lib.ListN.{getD}
 use Rattle.semantics.specs.Cells.{undecidedCode, falseCode, trueCode}
 use Rattle.codes.specs.{headOf, tailOf, nullOf, shiftedCode, foreign}
-use Rattle.decoding.specs.Words.{constantSort, paramSort, headSort, tailSort, nullSort, headParamSort, tailParamSort, nullParamSort, ifSort, ifParamSort, ifNullSort, ifHeadSort, callSort, callOneSort, callGuardSort}
+use Rattle.decoding.specs.Words.{constantSort, paramSort, headSort, tailSort, nullSort, headParamSort, tailParamSort, nullParamSort, ifSort, ifParamSort, ifNullSort, ifHeadSort, callSort, callOneSort, callGuardSort, callLeavesSort}
 use Rattle.decoding.specs.Words.{sortOf, paramOf, calleeOf, countOf, placesOf, constantOf, firstPlace, secondPlace, thirdPlace, functionsFrom, stride, firstIn, heldIn, valuesIn, lowestIn}
 
 -- ---- Functions
@@ -70,6 +70,18 @@ paramIn env w = getD env (paramOf w) 0
 abbrev pub workingBy : ℕ → ℕ → ℕ
 workingBy sort number = cond (eqb sort callGuardSort) (shiftedCode number) number
 
+-- a leaf: tl of a parameter, a parameter, its hd or a constant; other words are taken as constants
+unfoldable pub leafBy : List ℕ → List ℕ → ℕ → ℕ
+leafBy traces env w =
+    cond (eqb (sortOf w) tailParamSort) (tailOf (paramIn env w))
+    (cond (eqb (sortOf w) paramSort) (paramIn env w)
+    (cond (eqb (sortOf w) headParamSort) (headOf traces env (paramIn env w))
+    (constantOf w)))
+
+-- and the leaf at a place
+abbrev pub leafAt : List ℕ → List ℕ → List ℕ → ℕ → ℕ
+leafAt words traces env place = leafBy traces env (getD words place 0)
+
 -- a word of a sort; eval gives the outcome of the word at a place
 abbrev pub sortBy : List ℕ → List ℕ → List ℕ → List ℕ → (ℕ → ℕ) → ℕ → ℕ → ℕ
 sortBy words traces table env eval w sort =
@@ -88,7 +100,8 @@ sortBy words traces table env eval w sort =
     (cond (eqb sort callSort) (callBy words table eval w (countOf w))
     (cond (eqb sort callOneSort) (callBy words table eval w 1)
     (cond (eqb sort callGuardSort) (shiftedCode (callBy words table eval w (countOf w)))
-    undecidedCode))))))))))))))
+    (cond (eqb sort callLeavesSort) (callBy words table (leafAt words traces env) w (countOf w))
+    undecidedCode)))))))))))))))
 
 -- the number of the outcome of a word, with so much depth left; undecided where there is none
 unfoldable pub evalWord : List ℕ → List ℕ → List ℕ → List ℕ → ℕ → ℕ → ℕ
@@ -108,3 +121,6 @@ callAt words traces table env d w = callBy words table (evalAt words traces tabl
 
 unfoldable pub callOneAt : List ℕ → List ℕ → List ℕ → List ℕ → ℕ → ℕ → ℕ
 callOneAt words traces table env d w = callBy words table (evalAt words traces table env d) w 1
+
+unfoldable pub callLeavesAt : List ℕ → List ℕ → List ℕ → List ℕ → ℕ → ℕ
+callLeavesAt words traces table env w = callBy words table (leafAt words traces env) w (countOf w)

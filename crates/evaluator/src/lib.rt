@@ -9,7 +9,7 @@ ghost use mathlib.Core.Path.{_≡_};
 ghost use Prim.Native.Nat.{_%_, _<_};
 ghost use lib.ListN.{getD};
 ghost use Rattle.decoding.specs.Words.{paramOf};
-ghost use Rattle.evaluator.specs.{digitBound, mostIndex, nextIndex, Digit, lookupBy, workingBy, branchAt, callAt, callOneAt, evalWord};
+ghost use Rattle.evaluator.specs.{digitBound, mostIndex, nextIndex, Digit, lookupBy, workingBy, leafBy, branchAt, callAt, callOneAt, callLeavesAt, evalWord};
 
 // The number of the outcome of a node. The table is a reference to its slice: it goes from call to call as one
 // word. The sorts stand here by number, all sixteen, so that no range is tested.
@@ -71,7 +71,7 @@ pub fn eval(
         ),
         12 | 14 => working(sort, call(words, traces, table, env, left, node)),
         13 => call_one(words, traces, table, env, left, node),
-        15 => codes::UNDECIDED,
+        15 => call_leaves(words, traces, table, env, node),
         _ => codes::UNDECIDED,
     }
 }
@@ -174,6 +174,53 @@ fn call_one(
         return value;
     }
     lookup(words[place], table, digit)
+}
+
+// As call, for arguments that are leaves: there is no recursion.
+pub fn call_leaves(
+    words: &[u64; WORDS],
+    traces: &[u8; codes::TRACES_BYTES],
+    table: &&[u16],
+    env: &[u16; 6],
+    node: u64,
+) -> u16
+    ensures { λ r. ⌜ r ≡ callLeavesAt (now (words .entry)) (now (traces .entry)) (now (now (table .entry))) (now (env .entry)) node ⌝ }
+{
+    let place = FUNCTIONS + STRIDE * nodes::callee(node);
+    let count = nodes::count(node);
+    let mut places = nodes::places(node);
+    let mut index: u64 = 0;
+    let mut i: u64 = 0;
+    while i < count {
+        let value = leaf(traces, env, nodes::at(words, places));
+        let range = words[place + 1 + i as usize];
+        let digit = digit(range, value);
+        if functions::values(range) <= digit {
+            return value;
+        }
+        index = next_index(index, functions::values(range), digit);
+        places = places / 4096;
+        i += 1;
+    }
+    lookup(words[place], table, index)
+}
+
+// The number of the outcome of a leaf: tl of a parameter, a parameter, its hd or a constant. Other nodes are taken as
+// constants.
+fn leaf(traces: &[u8; codes::TRACES_BYTES], env: &[u16; 6], node: u64) -> u16
+    ensures { λ r. ⌜ r ≡ leafBy (now (traces .entry)) (now (env .entry)) node ⌝ }
+{
+    let sort = nodes::sort(node);
+    if sort == nodes::TAIL_PARAM {
+        return codes::tail(param(env, node));
+    }
+    if sort == nodes::PARAM {
+        return param(env, node);
+    }
+    if sort == nodes::HEAD_PARAM {
+        return codes::head(traces, env, param(env, node));
+    }
+    nodes::constant(node)
 }
 
 // The working number of what a call gave, by the sort of its node.

@@ -13,7 +13,7 @@ use lib.ListN.{length, set}
 use Rattle.syntax.specs.Limits.{mostParams}
 use Rattle.codes.specs.declared.Lengths.{Lengths}
 use Rattle.decoding.specs.Decoding.{signatureIn}
-use Rattle.passes.specs.Mirror.{Setup, countOf, sizeFrom, sizeOf, valuesInto, blank, envAt, rowWidth, stepped, Ready, RowReady, SameOthers, visitsFrom, storesFrom}
+use Rattle.passes.specs.Mirror.{Setup, countOf, sizeFrom, sizeOf, valuesInto, blank, envAt, rowWidth, firstsOf, lastsOf, stepped, Ready, RowReady, SameOthers, visitsFrom, storesFrom}
 use Rattle.passes.proofs.Rows.{size-rows, row-values, step-others}
 use Rattle.passes.proofs.PassWays.{Visited, visited-start, visited-length, visited-row, visited-end}
 
@@ -68,12 +68,13 @@ module _ (S : Setup) (n : Lengths) (g body : ℕ) (T₀ : List ℕ) where
     }
 
     pub stepping-more : r < rows → (env₁ : List ℕ) {T′ env′ : List ℕ} {more : ℕ} → T′ ≡ visitsFrom S n g body base width T → more ≡ storesFrom S n g body base width T
-        → SameOthers others env env₁ → env′ ≡ stepped signature n others env₁ → Stepping T′ env′ (stored + more) (base + width) (r + 1)
-    stepping-more h env₁ v s o e = record {
+        → SameOthers others env env₁ → {firsts lasts : List ℕ} {k : ℕ} → firsts ≡ firstsOf signature → lasts ≡ lastsOf signature n → k ≡ others
+        → env′ ≡ stepped firsts lasts k env₁ → Stepping T′ env′ (stored + more) (base + width) (r + 1)
+    stepping-more h env₁ v s o f l k e = record {
       visited = visited-row width (p .visited) v s;
       place = omega (arith, p .place);
       few = omega arith;
-      values = λ l. step-others signature n (u .samples) others r (blank n) env₁ (omega arith) l (λ w. o w ∙ p .values h w) e;
+      values = λ more. step-others signature n (u .samples) others r (blank n) env₁ (omega arith) (omega arith) more (λ w. o w ∙ p .values h w) (rw (f, l, k) at e);
     }
 
     pub stepping-end : rows ≤ r → (T ≡ visitsFrom S n g body 0 (sizeOf (S .functions) n g) T₀)

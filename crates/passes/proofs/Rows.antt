@@ -1,4 +1,6 @@
 -- Rows of configurations, and their values as digits that step from row to row:
+--   step-stops, step-goes,
+--   step-whole                     a step: where it ends, where it carries, and where nothing is left
 --   size-most                      the most configurations of a function
 --   size-rows                      a function's configurations are its rows, each as wide
 --   values-above, values-other     places past the parameters
@@ -7,8 +9,6 @@
 --   step-others                    whatever stands in the last parameter's place
 --   width-some, width-bound,
 --   lowest-some, lowest-bound      how wide a row is, and its first value
---   step-stops, step-goes,
---   step-whole                     a step: where it ends, where it carries, and where nothing is left
 use mathlib.Core.Path.{_≡_, refl, sym, ap, _∙_}
 use mathlib.Core.Bool.{Bool, true, false, cond}
 use mathlib.Core.List.{List}
@@ -25,12 +25,64 @@ use Rattle.syntax.specs.Limits.{mostParams}
 use Rattle.syntax.specs.Kinds.{kindIn}
 use Rattle.codes.specs.declared.Lengths.{Lengths}
 use Rattle.codes.specs.{Short, guardCode, lowestCode, radixOf}
-use Rattle.passes.specs.Mirror.{mostValues, mostConfigurations, valueNumber, sizeFrom, valuesInto, rowWidth, rowLowest, stepped, SameOthers}
+use Rattle.passes.specs.Mirror.{mostValues, mostConfigurations, valueNumber, sizeFrom, valuesInto, rowWidth, rowLowest, firstsOf, lastsOf, stepped, SameOthers}
 use Rattle.codes.proofs.Bounds.{radix-small, radix-pos, lowest-small}
 
 -- the number of a value that its kind has
 small-number : (kind : ℕ) (n : Lengths) (d : ℕ) → Short n → d < radixOf kind n → valueNumber kind d ≡ lowestCode kind + d
 small-number kind n d h l = omega (arith, radix-small kind n h, lowest-small kind)
+
+-- ---- Steps, as the code makes them
+
+module _ (firsts lasts : List ℕ) where
+  module _ (i : ℕ) (env : List ℕ) (some : 0 < i) {next last : ℕ} (x : next ≡ getD env (i - 1) 0 + 1) (l : last ≡ getD lasts (i - 1) 0) where
+    pub step-stops : next ≤ last → {all : List ℕ} → all ≡ stepped firsts lasts i env → set env (i - 1) next ≡ all
+    unfolding stepped
+    step-stops h q = go i some x l q
+      where
+        go : (i : ℕ) → 0 < i → next ≡ getD env (i - 1) 0 + 1 → last ≡ getD lasts (i - 1) 0 → {all : List ℕ} → all ≡ stepped firsts lasts i env
+            → set env (i - 1) next ≡ all
+        go zero z x l q = absurd (omega arith)
+        go (suc i) z x l q =
+            let same : i ≡ suc i - 1 = omega arith in
+            let up : next ≡ getD env i 0 + 1 = rw same x in
+            let end : last ≡ getD lasts i 0 = rw same l in
+            let test : getD env i 0 < getD lasts i 0 = omega (arith, up, end) in
+            rw (← same) (ap (set env i) up ∙ sym (q ∙ rw (lt-ltb _ _ test)))
+
+    pub step-goes : last < next → {first : ℕ} → first ≡ getD firsts (i - 1) 0 → {all : List ℕ} → all ≡ stepped firsts lasts i env
+        → all ≡ stepped firsts lasts (i - 1) (set env (i - 1) first)
+    unfolding stepped
+    step-goes h {first} f q = go i some x l f q
+      where
+        go : (i : ℕ) → 0 < i → next ≡ getD env (i - 1) 0 + 1 → last ≡ getD lasts (i - 1) 0 → first ≡ getD firsts (i - 1) 0 → {all : List ℕ}
+            → all ≡ stepped firsts lasts i env → all ≡ stepped firsts lasts (i - 1) (set env (i - 1) first)
+        go zero z x l f q = absurd (omega arith)
+        go (suc i) z x l f q =
+            let same : i ≡ suc i - 1 = omega arith in
+            let up : next ≡ getD env i 0 + 1 = rw same x in
+            let end : last ≡ getD lasts i 0 = rw same l in
+            let test : getD lasts i 0 ≤ getD env i 0 = omega (arith, up, end) in
+            let begin : getD firsts i 0 ≡ first = rw (same, ← f) in
+            rw (← same) (q ∙ rw (le-ltb _ _ test, begin))
+
+  pub step-whole : (i : ℕ) (env : List ℕ) {all : List ℕ} → all ≡ stepped firsts lasts i env → i ≤ 0 → env ≡ all
+  unfolding stepped
+  step-whole zero env q h = sym q
+  step-whole (suc i) env q h = absurd (omega arith)
+
+  step-other : (c : ℕ) (env : List ℕ) (j v : ℕ) → c ≤ j → stepped firsts lasts c (set env j v) ≡ set (stepped firsts lasts c env) j v
+  unfolding stepped
+  step-other zero env j v h = refl
+  step-other (suc c) env j v h =
+      let same = getD-set-other env j c v 0 (λ e. omega arith) in
+      rw same (go (λ e. step-other c e j v (omega arith)) (ltb (getD env c 0) (getD lasts c 0)))
+    where
+      go : ((e : List ℕ) → stepped firsts lasts c (set e j v) ≡ set (stepped firsts lasts c e) j v) → (b : Bool)
+          → cond b (set (set env j v) c (getD env c 0 + 1)) (stepped firsts lasts c (set (set env j v) c (getD firsts c 0)))
+          ≡ set (cond b (set env c (getD env c 0 + 1)) (stepped firsts lasts c (set env c (getD firsts c 0)))) j v
+      go ih true = set-comm env j c v _ (λ e. omega arith)
+      go ih false = ap (stepped firsts lasts c) (set-comm env j c v _ (λ e. omega arith)) ∙ ih (set env c (getD firsts c 0))
 
 module _ (signature : ℕ) where
   pub lowest-some : (count : ℕ) → (count ≡ 0 → ⊥) → {kind r : ℕ} → kind ≡ kindIn signature (count - 1) → r ≡ lowestCode kind → r ≡ rowLowest signature count
@@ -127,74 +179,48 @@ module _ (signature : ℕ) (n : Lengths) where
   width-bound few zero = omega arith
   width-bound few (suc c) = radix-small (kindIn signature c) n few
 
-  module _ (i : ℕ) (env : List ℕ) (some : 0 < i) {kind : ℕ} {low K next : ℕ} (b : kind ≡ kindIn signature (i - 1)) (l : low ≡ lowestCode kind)
-      (k : K ≡ radixOf kind n) (x : next ≡ getD env (i - 1) 0 + 1) where
-    pub step-stops : next < low + K → {all : List ℕ} → all ≡ stepped signature n i env → set env (i - 1) next ≡ all
-    unfolding stepped
-    step-stops h q = go i some b x q
-      where
-        go : (i : ℕ) → 0 < i → kind ≡ kindIn signature (i - 1) → next ≡ getD env (i - 1) 0 + 1 → {all : List ℕ} → all ≡ stepped signature n i env
-            → set env (i - 1) next ≡ all
-        go zero z b x q = absurd (omega arith)
-        go (suc i) z b x q =
-            let same : i ≡ suc i - 1 = omega arith in
-            let test : getD env i 0 + 1 < lowestCode (kindIn signature i) + radixOf (kindIn signature i) n = rw (same, ← b, ← l, ← k, ← x) h in
-            let up : next ≡ getD env i 0 + 1 = rw same x in
-            rw (← same) (ap (set env i) up ∙ sym (q ∙ rw (lt-ltb _ _ test)))
-
-    pub step-goes : low + K ≤ next → {all : List ℕ} → all ≡ stepped signature n i env → all ≡ stepped signature n (i - 1) (set env (i - 1) low)
-    unfolding stepped
-    step-goes h q = go i some b x q
-      where
-        go : (i : ℕ) → 0 < i → kind ≡ kindIn signature (i - 1) → next ≡ getD env (i - 1) 0 + 1 → {all : List ℕ} → all ≡ stepped signature n i env
-            → all ≡ stepped signature n (i - 1) (set env (i - 1) low)
-        go zero z b x q = absurd (omega arith)
-        go (suc i) z b x q =
-            let same : i ≡ suc i - 1 = omega arith in
-            let test : lowestCode (kindIn signature i) + radixOf (kindIn signature i) n ≤ getD env i 0 + 1 = rw (same, ← b, ← l, ← k, ← x) h in
-            let first : lowestCode (kindIn signature i) ≡ low = rw (same, ← b) (sym l) in
-            rw (← same) (q ∙ rw (le-ltb _ _ test, first))
-
-  pub step-whole : (i : ℕ) (env : List ℕ) {all : List ℕ} → all ≡ stepped signature n i env → i ≤ 0 → env ≡ all
-  unfolding stepped
-  step-whole zero env q h = sym q
-  step-whole (suc i) env q h = absurd (omega arith)
-
   -- ---- Steps
 
-  step-other : (c : ℕ) (env : List ℕ) (j v : ℕ) → c ≤ j → stepped signature n c (set env j v) ≡ set (stepped signature n c env) j v
-  unfolding stepped
-  step-other zero env j v h = refl
-  step-other (suc c) env j v h =
-      let same = getD-set-other env j c v 0 (λ e. omega arith) in
-      rw same (go (λ e. step-other c e j v (omega arith)) (ltb (getD env c 0 + 1) (lowest c + radix c)))
-    where
-      go : ((e : List ℕ) → stepped signature n c (set e j v) ≡ set (stepped signature n c e) j v) → (b : Bool)
-          → cond b (set (set env j v) c (getD env c 0 + 1)) (stepped signature n c (set (set env j v) c (lowest c)))
-          ≡ set (cond b (set env c (getD env c 0 + 1)) (stepped signature n c (set env c (lowest c)))) j v
-      go ih true = set-comm env j c v _ (λ e. omega arith)
-      go ih false = ap (stepped signature n c) (set-comm env j c v _ (λ e. omega arith)) ∙ ih (set env c (lowest c))
+  abbrev firsts : List ℕ
+  firsts = firstsOf signature
+
+  abbrev lasts : List ℕ
+  lasts = lastsOf signature n
+
+  first-at : (i : ℕ) → i < mostParams → getD firsts i 0 ≡ lowest i
+  first-at zero h = refl
+  first-at (suc zero) h = refl
+  first-at (suc (suc zero)) h = refl
+  first-at (suc (suc (suc zero))) h = refl
+  first-at (suc (suc (suc (suc i)))) h = absurd (omega arith)
+
+  last-at : (i : ℕ) → i < mostParams → getD lasts i 0 ≡ lowest i + radix i - 1
+  last-at zero h = refl
+  last-at (suc zero) h = refl
+  last-at (suc (suc zero)) h = refl
+  last-at (suc (suc (suc zero))) h = refl
+  last-at (suc (suc (suc (suc i)))) h = absurd (omega arith)
 
   -- one digit up, where it has not reached its kind's last value, and where it has
-  step-up : (c : ℕ) (env : List ℕ) (d : ℕ) → Short n → c < length env → getD env c 0 ≡ numberAt c d → d + 1 < radix c
-      → stepped signature n (suc c) env ≡ set env c (numberAt c (d + 1))
+  step-up : (c : ℕ) (env : List ℕ) (d : ℕ) → Short n → c < mostParams → c < length env → getD env c 0 ≡ numberAt c d → d + 1 < radix c
+      → stepped firsts lasts (suc c) env ≡ set env c (numberAt c (d + 1))
   unfolding stepped
-  step-up c env d few room e h =
+  step-up c env d few narrow room e h =
       let now = small-number (kindIn signature c) n d few (omega arith) in
       let next = small-number (kindIn signature c) n (d + 1) few h in
-      let test : getD env c 0 + 1 < lowest c + radix c = omega arith in
+      let test : getD env c 0 < getD lasts c 0 = omega (arith, last-at c narrow) in
       let up : getD env c 0 + 1 ≡ numberAt c (d + 1) = omega arith in
       rw (lt-ltb _ _ test, up)
 
-  step-carry : (c : ℕ) (env : List ℕ) (d : ℕ) → Short n → getD env c 0 ≡ numberAt c d → d < radix c → radix c ≤ d + 1
-      → stepped signature n (suc c) env ≡ stepped signature n c (set env c (numberAt c 0))
+  step-carry : (c : ℕ) (env : List ℕ) (d : ℕ) → Short n → c < mostParams → getD env c 0 ≡ numberAt c d → d < radix c → radix c ≤ d + 1
+      → stepped firsts lasts (suc c) env ≡ stepped firsts lasts c (set env c (numberAt c 0))
   unfolding stepped
-  step-carry c env d few e l h =
+  step-carry c env d few narrow e l h =
       let now = small-number (kindIn signature c) n d few l in
       let first = small-number (kindIn signature c) n 0 few (radix-pos (kindIn signature c) n) in
-      let test : lowest c + radix c ≤ getD env c 0 + 1 = omega arith in
-      let low : lowest c ≡ numberAt c 0 = omega arith in
-      rw (le-ltb _ _ test) (ap (λ (v : ℕ). stepped signature n c (set env c v)) low)
+      let test : getD lasts c 0 ≤ getD env c 0 = omega (arith, last-at c narrow) in
+      let low : getD firsts c 0 ≡ numberAt c 0 = omega (arith, first-at c narrow) in
+      rw (le-ltb _ _ test) (ap (λ (v : ℕ). stepped firsts lasts c (set env c v)) low)
 
   -- a number and the next, by their last digits
   module _ (x K : ℕ) (pos : 0 < K) where
@@ -219,7 +245,7 @@ module _ (signature : ℕ) (n : Lengths) where
   length-values (suc (suc c)) x env = length-values (suc c) _ _ ∙ length-set env (suc c) _
 
   -- the last digit stepped, the others by what is known of them
-  module _ (few : Short n) (c x : ℕ) (env : List ℕ) (room : suc c < length env) where
+  module _ (few : Short n) (c x : ℕ) (env : List ℕ) (narrow : suc c < mostParams) (room : suc c < length env) where
     abbrev i : ℕ
     i = suc c
 
@@ -251,44 +277,44 @@ module _ (signature : ℕ) (n : Lengths) where
 
     step-more : x + 1 < sizeFrom signature n 0 (suc i)
         → ((y : ℕ) → y + 1 < sizeFrom signature n 0 i
-        → stepped signature n i (valuesInto signature n i y (set env i (numberAt i 0))) ≡ valuesInto signature n i (y + 1) (set env i (numberAt i 0)))
+        → stepped firsts lasts i (valuesInto signature n i y (set env i (numberAt i 0))) ≡ valuesInto signature n i (y + 1) (set env i (numberAt i 0)))
         → (b : Bool) → ltb (x % K + 1) K ≡ b
-        → stepped signature n (suc i) (valuesInto signature n i (x / K) before) ≡ valuesInto signature n i ((x + 1) / K) (set env i (numberAt i ((x + 1) % K)))
+        → stepped firsts lasts (suc i) (valuesInto signature n i (x / K) before) ≡ valuesInto signature n i ((x + 1) / K) (set env i (numberAt i ((x + 1) % K)))
     step-more h ih true t =
         let l = ltb-true _ _ t in
         let u = up-digits x K pos l in
-        step-up i (valuesInto signature n i (x / K) before) (x % K) few long digit-here l
+        step-up i (valuesInto signature n i (x / K) before) (x % K) few narrow long digit-here l
         ∙ put-digit (numberAt i (x % K + 1))
         ∙ ap (λ (q : ℕ). valuesInto signature n i q (set env i (numberAt i (x % K + 1)))) (u .0)
         ∙ ap (λ (m : ℕ). valuesInto signature n i ((x + 1) / K) (set env i (numberAt i m))) (u .1)
     step-more h ih false t =
         let l = ltb-false _ _ t in
         let u = carry-digits x K pos l in
-        step-carry i (valuesInto signature n i (x / K) before) (x % K) few digit-here (mod-lt x pos) l
-        ∙ ap (stepped signature n i) (put-digit (numberAt i 0))
+        step-carry i (valuesInto signature n i (x / K) before) (x % K) few narrow digit-here (mod-lt x pos) l
+        ∙ ap (stepped firsts lasts i) (put-digit (numberAt i 0))
         ∙ ih (x / K) (rw (u .0) (next-above h))
         ∙ ap (λ (q : ℕ). valuesInto signature n i q (set env i (numberAt i 0))) (u .0)
         ∙ ap (λ (m : ℕ). valuesInto signature n i ((x + 1) / K) (set env i (numberAt i m))) (u .1)
 
-  pub step-values : Short n → (c x : ℕ) (env : List ℕ) → c ≤ length env → x + 1 < sizeFrom signature n 0 c
-      → stepped signature n c (valuesInto signature n c x env) ≡ valuesInto signature n c (x + 1) env
+  pub step-values : Short n → (c x : ℕ) (env : List ℕ) → c ≤ mostParams → c ≤ length env → x + 1 < sizeFrom signature n 0 c
+      → stepped firsts lasts c (valuesInto signature n c x env) ≡ valuesInto signature n c (x + 1) env
   unfolding valuesInto sizeFrom
-  step-values few zero x env h l = absurd (omega arith)
-  step-values few (suc zero) x env h l =
-      step-up 0 (set env 0 (numberAt 0 x)) x few (omega (arith, length-set env 0 (numberAt 0 x))) (getD-set-same env 0 (numberAt 0 x) 0 (omega arith))
+  step-values few zero x env narrow h l = absurd (omega arith)
+  step-values few (suc zero) x env narrow h l =
+      step-up 0 (set env 0 (numberAt 0 x)) x few (omega arith) (omega (arith, length-set env 0 (numberAt 0 x))) (getD-set-same env 0 (numberAt 0 x) 0 (omega arith))
       (omega arith)
       ∙ set-set env 0 (numberAt 0 x) (numberAt 0 (x + 1))
-  step-values few (suc (suc c)) x env h l =
-      step-more few c x env h l
-      (λ y b. step-values few (suc c) y (set env (suc c) (numberAt (suc c) 0)) (omega (arith, length-set env (suc c) (numberAt (suc c) 0))) b)
+  step-values few (suc (suc c)) x env narrow h l =
+      step-more few c x env narrow h l
+      (λ y b. step-values few (suc c) y (set env (suc c) (numberAt (suc c) 0)) (omega arith) (omega (arith, length-set env (suc c) (numberAt (suc c) 0))) b)
       (ltb (x % radix (suc c) + 1) (radix (suc c))) refl
 
   -- from row to row, whatever stands in the last parameter's place
-  pub step-others : Short n → (c x : ℕ) (env now : List ℕ) {next : List ℕ} → c ≤ length env → x + 1 < sizeFrom signature n 0 c
-      → SameOthers c (valuesInto signature n c x env) now → next ≡ stepped signature n c now → SameOthers c (valuesInto signature n c (x + 1) env) next
-  step-others few c x env now h l e q v =
+  pub step-others : Short n → (c x : ℕ) (env now : List ℕ) {next : List ℕ} → c ≤ mostParams → c ≤ length env → x + 1 < sizeFrom signature n 0 c
+      → SameOthers c (valuesInto signature n c x env) now → next ≡ stepped firsts lasts c now → SameOthers c (valuesInto signature n c (x + 1) env) next
+  step-others few c x env now narrow h l e q v =
       ap (λ (m : List ℕ). set m c v) q
-      ∙ sym (step-other c now c v (omega arith))
-      ∙ ap (stepped signature n c) (e v)
-      ∙ step-other c (valuesInto signature n c x env) c v (omega arith)
-      ∙ ap (λ (m : List ℕ). set m c v) (step-values few c x env h l)
+      ∙ sym (step-other firsts lasts c now c v (omega arith))
+      ∙ ap (stepped firsts lasts c) (e v)
+      ∙ step-other firsts lasts c (valuesInto signature n c x env) c v (omega arith)
+      ∙ ap (λ (m : List ℕ). set m c v) (step-values few c x env narrow h l)

@@ -34,7 +34,7 @@ use Rattle.codes.proofs.CodeMeaning.{ShortTraces, LengthsOf, placesFrom, SaysTr
 use Rattle.decoding.specs.Words.{mostWords, functionWord, kindWord}
 use Rattle.decoding.specs.Decoding.{endsDown, signatureIn, wordsFilled}
 use Rattle.decoding.proofs.Ends.{ends-mean, arguments-mean}
-use Rattle.decoding.proofs.Filled.{node-filled, function-filled, param-filled}
+use Rattle.decoding.proofs.Filled.{after, after-kept, node-filled, function-filled, param-filled}
 use Rattle.evaluator.specs.{functionAt, paramAt}
 use Rattle.evaluator.proofs.Sets.{firstCell, Sets}
 use Rattle.passes.specs.Mirror.{Setup, setup, firstOf, countOf, functionsUpto, tracesOf}
@@ -169,11 +169,13 @@ module _ {bytes : List ℕ} {s : Sort} {P : Program} (a : Accepted bytes s P) (r
         arguments = λ g f e. arguments-mean a g f e;
         array = F;
         results = λ g f e. result-is g f e;
-        nodes = λ at h. (
-          endsDown bytes (outlineOf s P .params) (length bytes - (at + 1)) (at + 1) (replicate mostBytes 0),
-          ends-mean a (at + 1) (omega arith),
-          node-filled bytes (outlineOf s P .params) F (length P) n (replicate mostWords 0) zeros (a .short) (a .few) at h,
-        );
+        nodes = λ at h. record {
+          ends = endsDown bytes (outlineOf s P .params) (length bytes - (at + 1)) (at + 1) (replicate mostBytes 0);
+          right = ends-mean a (at + 1) (omega arith);
+          later = after bytes (outlineOf s P .params) F (length P) n (replicate mostWords 0) zeros (a .short) (a .few) at;
+          kept = after-kept bytes (outlineOf s P .params) F (length P) n (replicate mostWords 0) zeros (a .short) (a .few) at h;
+          word = node-filled bytes (outlineOf s P .params) F (length P) n (replicate mostWords 0) zeros (a .short) (a .few) at h;
+        };
         function = λ g f e. function-is g f e;
         param = λ g i f κ e h. param-is g f e i κ h;
         says = traces-mean ram guard n few;

@@ -66,14 +66,27 @@ abbrev pub rowLowest : ℕ → ℕ → ℕ
 rowLowest signature zero = 0
 rowLowest signature (suc c) = lowestCode (kindIn signature c)
 
--- the values of so many parameters stepped as digits: the last goes up by one, with a carry to the left where it has
--- reached its kind's last value
-unfoldable pub stepped : ℕ → Lengths → ℕ → List ℕ → List ℕ
-stepped signature n zero env = env
-stepped signature n (suc i) env =
-    let kind = kindIn signature i in
-    cond (ltb (getD env i 0 + 1) (lowestCode kind + radixOf kind n)) (set env i (getD env i 0 + 1))
-    (stepped signature n i (set env i (lowestCode kind)))
+-- the working numbers of the first values of four parameters
+abbrev pub firstValue : ℕ → ℕ → ℕ
+firstValue signature i = lowestCode (kindIn signature i)
+
+abbrev pub firstsOf : ℕ → List ℕ
+firstsOf signature = firstValue signature 0 ∷ firstValue signature 1 ∷ firstValue signature 2 ∷ firstValue signature 3 ∷ []
+
+-- and of their last values
+abbrev pub lastValue : ℕ → Lengths → ℕ → ℕ
+lastValue signature n i = lowestCode (kindIn signature i) + radixOf (kindIn signature i) n - 1
+
+abbrev pub lastsOf : ℕ → Lengths → List ℕ
+lastsOf signature n = lastValue signature n 0 ∷ lastValue signature n 1 ∷ lastValue signature n 2 ∷ lastValue signature n 3 ∷ []
+
+-- the values of so many parameters stepped as digits, by the first and the last value of each: the last digit goes up by one,
+-- with a carry to the left where it has reached its last value
+unfoldable pub stepped : List ℕ → List ℕ → ℕ → List ℕ → List ℕ
+stepped firsts lasts zero env = env
+stepped firsts lasts (suc i) env =
+    cond (ltb (getD env i 0) (getD lasts i 0)) (set env i (getD env i 0 + 1))
+    (stepped firsts lasts i (set env i (getD firsts i 0)))
 
 -- ---- The arrays of an evaluation
 

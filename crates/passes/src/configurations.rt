@@ -5,7 +5,7 @@ ghost use Prim.Native.Nat.{_-_, _<_, _≤_};
 ghost use Rattle.syntax.specs.Limits.{mostFunctions, mostParams};
 ghost use Rattle.evaluator.specs.{digitBound};
 ghost use Rattle.codes.specs.{Short};
-ghost use Rattle.passes.specs.Mirror.{mostConfigurations, short, shortened, countOf, sizeFrom, valuesInto, valueNumber, rowWidth, rowLowest, stepped};
+ghost use Rattle.passes.specs.Mirror.{mostConfigurations, short, shortened, countOf, sizeFrom, valuesInto, valueNumber, rowWidth, rowLowest, firstValue, firstsOf, lastValue, lastsOf, stepped};
 
 // The number of parameters of function g.
 pub fn count(functions: &[u64; 96], g: usize) -> u64
@@ -83,23 +83,62 @@ pub fn row_lowest(signature: u64, count: u64) -> u64
     codes::lowest(syntax::kind_at(signature, count - 1))
 }
 
-// Steps the values of the first so many parameters as digits: the last goes up by one, with a carry to the left
-// where it has reached its kind's last value.
-pub fn step(signature: u64, count: u64, n: Lengths, env: &mut [u16; 6])
-    requires { ⌜ (count ≤ mostParams) × Short n ⌝ }
-    ensures { λ _. ⌜ now (env .exit) ≡ stepped signature n count (now (env .entry)) ⌝ }
+// The working numbers of the first values of a function's parameters.
+pub fn firsts(signature: u64) -> [u16; 4]
+    ensures { λ r. ⌜ r ≡ firstsOf signature ⌝ }
+{
+    [
+        first_value(signature, 0),
+        first_value(signature, 1),
+        first_value(signature, 2),
+        first_value(signature, 3),
+    ]
+}
+
+// That of parameter i.
+fn first_value(signature: u64, i: u64) -> u16
+    ensures { λ r. ⌜ r ≡ firstValue signature i ⌝ }
+{
+    codes::lowest(syntax::kind_at(signature, i)) as u16
+}
+
+// The working numbers of their last values.
+pub fn lasts(signature: u64, n: Lengths) -> [u16; 4]
+    requires { ⌜ Short n ⌝ }
+    ensures { λ r. ⌜ r ≡ lastsOf signature n ⌝ }
+{
+    [
+        last_value(signature, 0, n),
+        last_value(signature, 1, n),
+        last_value(signature, 2, n),
+        last_value(signature, 3, n),
+    ]
+}
+
+// That of parameter i.
+fn last_value(signature: u64, i: u64, n: Lengths) -> u16
+    requires { ⌜ Short n ⌝ }
+    ensures { λ r. ⌜ r ≡ lastValue signature n i ⌝ }
+{
+    let kind = syntax::kind_at(signature, i);
+    (codes::lowest(kind) + codes::radix(kind, n) - 1) as u16
+}
+
+// Steps the values of the first so many parameters as digits, by the first and the last value of each: the last digit
+// goes up by one, with a carry to the left where it has reached its last value.
+pub fn step(firsts: &[u16; 4], lasts: &[u16; 4], count: u64, env: &mut [u16; 6])
+    requires { ⌜ count ≤ mostParams ⌝ }
+    ensures { λ _. ⌜ now (env .exit) ≡ stepped (now (firsts .entry)) (now (lasts .entry)) count (now (env .entry)) ⌝ }
 {
     let mut i = count;
     while 0 < i {
         i -= 1;
-        let kind = syntax::kind_at(signature, i);
-        let lowest = codes::lowest(kind);
         let next = wide(env[i as usize]) + 1;
-        if next < lowest + codes::radix(kind, n) {
+        if next <= wide(lasts[i as usize]) {
             env[i as usize] = next as u16;
             return;
         }
-        env[i as usize] = lowest as u16;
+        env[i as usize] = firsts[i as usize];
     }
 }
 

@@ -99,12 +99,14 @@ fn pass_function(
         n.guard + codes::GUARD_OFFSET,
     ];
     configurations::values(signature, others, n, 0, &mut env);
+    let firsts = configurations::firsts(signature);
+    let lasts = configurations::lasts(signature, n);
     let mut stored: usize = 0;
     let mut base: usize = 0;
     let mut r: u64 = 0;
     while r < rows {
         stored += row(words, traces, functions, table, &mut env, n, g, body, base);
-        configurations::step(signature, others, n, &mut env);
+        configurations::step(&firsts, &lasts, others, &mut env);
         base += width;
         r += 1;
     }

@@ -11,14 +11,15 @@ use Rattle.bodies.proofs.+branch+conditional+take.Lts-conditional as co
 use Rattle.bodies.proofs.take.Reads as take
 use Rattle.bodies.proofs.take.Kinds as take-kinds
 use Rattle.bodies.proofs.+branch+conditional+take.Lts-take as take-lts
+use Rattle.codes.proofs.has_samples.Reads as has-samples-reads
 use Rattle.codes.proofs.head.Reads as head-reads
 use Rattle.codes.proofs.null.Reads as null-reads
 use Rattle.decoding.proofs.nodes.second.Reads as second-reads
 use Rattle.decoding.proofs.nodes.sort.Reads as sort-reads
 use Rattle.decoding.proofs.nodes.third.Reads as third-reads
+use Rattle.evaluator.proofs.call_leaves.Reads as call-leaves-reads
 use Rattle.evaluator.proofs.eval.Reads as eval-reads
 use Rattle.evaluator.proofs.param.Reads as param-reads
-use Rattle.bodies.proofs.call.Reads as call-reads
 use Rattle.bodies.proofs.call_one.Reads as call-one-reads
 use Rattle.bodies.proofs.+branch+conditional+take.{statement}
 use Rattle.bodies.proofs.+branch+conditional+take.Tie.{close}
@@ -28,7 +29,7 @@ use native.Mathlib.Omega.{arith}
 use borrow.Author.Needs.{needs}
 use Rattle.codes.specs.{headOf, nullOf}
 use Rattle.evaluator.proofs.EvalWays.{branch-true, branch-false, branch-other}
-use Rattle.bodies.proofs.SpineWays.{sort-at, fused-at, branch-long}
+use Rattle.bodies.proofs.SpineWays.{sort-at, fused-at, branch-long, call-leaves-at}
 
 abbrev μ-branch : Measures 5 branch-kinds.ps ℕ
 μ-branch κs a = a .1 .1 .1 .1 .0 * 3 + 1
@@ -73,6 +74,8 @@ abbrev conditional-claims : ℕ → conditional-lts.Claims
 conditional-claims t = (
   param-reads.Asked,
   param-reads.Learnt,
+  has-samples-reads.Asked,
+  has-samples-reads.Learnt,
   third-reads.Asked,
   third-reads.Learnt,
   take-below t,
@@ -95,8 +98,8 @@ take-claims t = (
   conditional.Post,
   call-one-reads.Asked,
   call-one-reads.Learnt,
-  call-reads.Asked,
-  call-reads.Learnt,
+  call-leaves-reads.Asked,
+  call-leaves-reads.Learnt,
 )
 
 branch-second-requires : (t : ℕ) → branch-lts.Need-second-requires (branch-claims t) (branch-at t) branch.Post
@@ -123,6 +126,9 @@ branch-returns-3 t c = sym (branch-other _ _ _ _ _ _ _ (c .before .if1 .left) (c
 conditional-param-requires : (t : ℕ) → conditional-lts.Need-param-requires (conditional-claims t) (conditional-at t) conditional.Post
 conditional-param-requires t c κs = search needs
 
+conditional-has-samples-requires : (t : ℕ) → conditional-lts.Need-has-samples-requires (conditional-claims t) (conditional-at t) conditional.Post
+conditional-has-samples-requires t c κs = search needs
+
 conditional-third-requires : (t : ℕ) → conditional-lts.Need-third-requires (conditional-claims t) (conditional-at t) conditional.Post
 conditional-third-requires t c κs = search needs
 
@@ -131,9 +137,10 @@ conditional-take-requires t c κs = (omega arith, omega arith)
 
 conditional-returns : (t : ℕ) → conditional-lts.Need-returns (conditional-claims t) (conditional-at t) conditional.Post
 conditional-returns t c =
+    let long = c .before .before in
     c .take .ensures
-    ∙ sym (fused-at _ _ _ _ _ _ 10 (λ (v : ℕ). nullOf v) (λ eval. refl) (c .before .before .before .if1 .taken) (c .before .before .before .before .param .ensures)
-    ∙ branch-long _ _ _ _ _ _ _ (c .before .before .if2 .taken) (c .before .third .ensures))
+    ∙ sym (fused-at _ _ _ _ _ _ 10 (λ (v : ℕ). nullOf v) (λ eval. refl) (long .before .before .if1 .taken) (long .before .before .before .param .ensures)
+    ∙ branch-long _ _ _ _ _ _ (long .before .before .before .param .result) (sym (long .before .has-samples .ensures) ∙ long .if2 .taken) (c .before .third .ensures))
 
 conditional-null-requires : (t : ℕ) → conditional-lts.Need-null-requires (conditional-claims t) (conditional-at t) conditional.Post
 conditional-null-requires t c κs = search needs
@@ -144,7 +151,7 @@ conditional-branch-requires t c κs = (omega arith, omega arith)
 conditional-returns-2 : (t : ℕ) → conditional-lts.Need-returns-2 (conditional-claims t) (conditional-at t) conditional.Post
 conditional-returns-2 t c =
     (rw (c .before .null .ensures) at (c .branch .ensures))
-    ∙ sym (fused-at _ _ _ _ _ _ 10 (λ (v : ℕ). nullOf v) (λ eval. refl) (c .before .before .before .if1 .taken) (c .before .before .before .before .param .ensures))
+    ∙ sym (fused-at _ _ _ _ _ _ 10 (λ (v : ℕ). nullOf v) (λ eval. refl) (c .before .before .before .before .if1 .taken) (c .before .before .before .before .before .param .ensures))
 
 conditional-head-requires : (t : ℕ) → conditional-lts.Need-head-requires (conditional-claims t) (conditional-at t) conditional.Post
 conditional-head-requires t c κs = search needs
@@ -198,11 +205,13 @@ take-call-one-requires t c κs = (omega (arith, c .before .before .before .befor
 take-returns-4 : (t : ℕ) → take-lts.Need-returns-4 (take-claims t) (take-at t) take.Post
 take-returns-4 t c = c .call-one .ensures
 
-take-call-requires : (t : ℕ) → take-lts.Need-call-requires (take-claims t) (take-at t) take.Post
-take-call-requires t c κs = (omega (arith, c .before .before .before .before .before .if1 .left), sym (c .before .before .before .before .sort .ensures) ∙ c .if5 .taken)
+take-call-leaves-requires : (t : ℕ) → take-lts.Need-call-leaves-requires (take-claims t) (take-at t) take.Post
+take-call-leaves-requires t c κs = search needs
 
 take-returns-5 : (t : ℕ) → take-lts.Need-returns-5 (take-claims t) (take-at t) take.Post
-take-returns-5 t c = c .call .ensures
+take-returns-5 t c =
+    let sorted = c .before .before .before .before .before in
+    c .call-leaves .ensures ∙ sym (call-leaves-at _ _ _ _ _ _ (omega (arith, sorted .before .if1 .left)) (sorted .sort .ensures) (c .before .if5 .taken))
 
 take-eval-requires-3 : (t : ℕ) → take-lts.Need-eval-requires-3 (take-claims t) (take-at t) take.Post
 take-eval-requires-3 t c κs = search needs
@@ -225,6 +234,7 @@ pub +branch+conditional+take-spec : {M : Type 1} → statement M
     (conditional-at t)
     conditional.Post
     (conditional-param-requires t)
+    (conditional-has-samples-requires t)
     (conditional-third-requires t)
     (conditional-take-requires t)
     (conditional-returns t)
@@ -249,7 +259,7 @@ pub +branch+conditional+take-spec : {M : Type 1} → statement M
     (take-returns-3 t)
     (take-call-one-requires t)
     (take-returns-4 t)
-    (take-call-requires t)
+    (take-call-leaves-requires t)
     (take-returns-5 t)
     (take-eval-requires-3 t)
     (take-returns-6 t)

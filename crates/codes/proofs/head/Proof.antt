@@ -1,18 +1,11 @@
--- `head` meets its contract, by its cases.
+-- `head` meets its contract, by its two cases.
 use mathlib.Core.Path.{sym, _∙_}
-use borrow.Author.Tests.{lt-ltb, le-ltb}
 use borrow.Author.Needs.{needs}
 use Rattle.codes.proofs.head.Statement.{statement}
 use Rattle.codes.proofs.head.Tie as tie
 
-returns : tie.Need-returns
-returns c = simp (lt-ltb _ _ (c .if1 .taken))
-
-is-empty-requires : tie.Need-is-empty-requires
-is-empty-requires c κs = search needs
-
-returns-2 : tie.Need-returns-2
-returns-2 c = simp (le-ltb _ _ (c .before .before .if1 .left), sym (c .before .is-empty .ensures) ∙ c .if2 .taken)
+has-samples-requires : tie.Need-has-samples-requires
+has-samples-requires c κs = search needs
 
 cast-place : tie.Need-cast-place
 cast-place c = search needs
@@ -32,23 +25,28 @@ place-requires c κs = search needs
 sample-requires : tie.Need-sample-requires
 sample-requires c κs = search needs
 
-returns-3 : tie.Need-returns-3
-returns-3 c =
-    let other = c .before .before .before in
-    simp (le-ltb _ _ (other .before .before .if1 .left), sym (other .before .is-empty .ensures) ∙ other .if2 .left, ← c .before .place .ensures)
-    (c .sample .ensures)
+returns : tie.Need-returns
+returns c =
+    let long = c .before .before .before in
+    simp (sym (long .before .has-samples .ensures) ∙ long .if1 .taken, ← c .before .place .ensures) (c .sample .ensures)
+
+through-or-requires : tie.Need-through-or-requires
+through-or-requires c κs = search needs
+
+returns-2 : tie.Need-returns-2
+returns-2 c = simp (sym (c .before .before .has-samples .ensures) ∙ c .before .if1 .left) (c .through-or .ensures)
 
 pub head-spec : {M : Type 1} → statement M
 head-spec =
     tie.close
     (tie.spec
-    returns
-    is-empty-requires
-    returns-2
+    has-samples-requires
     cast-place
     add-place
     mul-place
     element-copy-out-place
     place-requires
     sample-requires
-    returns-3)
+    returns
+    through-or-requires
+    returns-2)

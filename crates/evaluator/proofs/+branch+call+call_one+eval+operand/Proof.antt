@@ -30,6 +30,7 @@ use Rattle.decoding.proofs.nodes.places.Reads as places-reads
 use Rattle.decoding.proofs.nodes.second.Reads as second-reads
 use Rattle.decoding.proofs.nodes.sort.Reads as sort-reads
 use Rattle.decoding.proofs.nodes.third.Reads as third-reads
+use Rattle.evaluator.proofs.call_leaves.Reads as call-leaves-reads
 use Rattle.evaluator.proofs.digit.Reads as digit-reads
 use Rattle.evaluator.proofs.working.Reads as working-reads
 use Rattle.evaluator.proofs.lookup.Reads as lookup-reads
@@ -44,7 +45,7 @@ use native.Mathlib.Omega.{arith}
 use borrow.Author.Needs.{needs}
 use Rattle.codes.specs.{shiftedCode}
 use Rattle.decoding.specs.Words.{calleeOf, placesOf}
-use Rattle.evaluator.specs.{sortBy, evalWord, evalAt, branchAt, callAt, callOneAt}
+use Rattle.evaluator.specs.{sortBy, evalWord, evalAt, branchAt, callAt, callOneAt, callLeavesAt}
 use Rattle.evaluator.proofs.EvalWays.{apart-above, eval-deep, eval-sort, eval-other, branch-true, branch-false, branch-other, Along, along-start, along-end, along-stop, along-more, not-below, function-at, param-at, first-param-at, args-count, working-plain, working-guard, one-stop, one-found, next-index-is, lookup-is}
 
 abbrev μ-branch : Measures 5 branch-kinds.ps ℕ
@@ -169,6 +170,8 @@ eval-claims t = (
   working-reads.Learnt,
   call-one-below t,
   call-one.Post,
+  call-leaves-reads.Asked,
+  call-leaves-reads.Learnt,
 )
 
 abbrev operand-claims : ℕ → operand-lts.Claims
@@ -483,6 +486,9 @@ eval-working-requires t c κs = search needs
 eval-call-one-requires : (t : ℕ) → eval-lts.Need-call-one-requires (eval-claims t) (eval-at t) eval.Post
 eval-call-one-requires t c κs = (omega arith, tt)
 
+eval-call-leaves-requires : (t : ℕ) → eval-lts.Need-call-leaves-requires (eval-claims t) (eval-at t) eval.Post
+eval-call-leaves-requires t c κs = search needs
+
 eval-returns-2 : (t : ℕ) → eval-lts.Need-returns-2 (eval-claims t) (eval-at t) eval.Post
 eval-returns-2 t c = c .constant .ensures ∙ sym (at-sort t (c .before .before) 0 (c .before .match .keys1))
 
@@ -538,7 +544,8 @@ unfolding callOneAt
 eval-returns-15 t c = c .call-one .ensures ∙ sym (at-sort t (c .before .before) 13 (c .before .match .keys14))
 
 eval-returns-16 : (t : ℕ) → eval-lts.Need-returns-16 (eval-claims t) (eval-at t) eval.Post
-eval-returns-16 t c = sym (at-sort t (c .before) 15 (c .match .keys15))
+unfolding callLeavesAt
+eval-returns-16 t c = c .call-leaves .ensures ∙ sym (at-sort t (c .before .before) 15 (c .before .match .keys15))
 
 eval-returns-17 : (t : ℕ) → eval-lts.Need-returns-17 (eval-claims t) (eval-at t) eval.Post
 eval-returns-17 t c =
@@ -547,6 +554,7 @@ eval-returns-17 t c =
     let call : c .before .sort .result ≡ 12 → ⊥ = λ e. rest .0 .0 .1 (inl e) in
     let guard : c .before .sort .result ≡ 14 → ⊥ = λ e. rest .0 .0 .1 (inr e) in
     let one = rest .0 .1 in
+    let leaves = rest .1 in
     sym (eval-other _ _ _ _ _ _ (c .before .before .if1 .left) (c .before .sort .ensures) (omega arith))
 
 operand-returns : (t : ℕ) → operand-lts.Need-returns (operand-claims t) (operand-at t) operand.Post
@@ -681,6 +689,7 @@ pub +branch+call+call-one+eval+operand-spec : {M : Type 1} → statement M
     (eval-call-requires t)
     (eval-working-requires t)
     (eval-call-one-requires t)
+    (eval-call-leaves-requires t)
     (eval-returns-2 t)
     (eval-returns-3 t)
     (eval-returns-4 t)

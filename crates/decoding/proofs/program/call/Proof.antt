@@ -21,26 +21,44 @@ element-copy-out-kind-at c = search needs
 kind-at-requires : tie.Need-kind-at-requires
 kind-at-requires c κs = search needs
 
-call-sort-requires : tie.Need-call-sort-requires
-call-sort-requires c κs = search needs
+cast-small : tie.Need-cast-small
+cast-small c = search needs
 
-cast-with-operands : tie.Need-cast-with-operands
-cast-with-operands c = search needs
+mul-small : tie.Need-mul-small
+mul-small c = search needs
 
-mul-with-operands : tie.Need-mul-with-operands
-mul-with-operands c = search needs
-
-add-with-operands : tie.Need-add-with-operands
-add-with-operands c = search needs
+add-small : tie.Need-add-small
+add-small c = search needs
 
 with-operands-requires : tie.Need-with-operands-requires
 with-operands-requires c κs = search needs
 
+places-requires : tie.Need-places-requires
+places-requires c κs = search needs
+
+leaves-requires : tie.Need-leaves-requires
+leaves-requires c κs = search needs
+
+call-sort-requires : tie.Need-call-sort-requires
+call-sort-requires c κs = search needs
+
+with-operands-requires-2 : tie.Need-with-operands-requires-2
+with-operands-requires-2 c κs = search needs
+
 returns : tie.Need-returns
 returns c =
     let sorted = c .before in
-    let kinded = sorted .before in
-    rw (sorted .call-sort .ensures, kinded .kind-at .ensures .0, kinded .before .before .arguments .ensures .0) at (c .with-operands .ensures)
+    let told = sorted .before in
+    let placed = told .before in
+    let kinded = placed .before .before in
+    rw (
+      sorted .call-sort .ensures,
+      told .leaves .ensures,
+      placed .places .ensures,
+      placed .before .with-operands .ensures,
+      kinded .kind-at .ensures .0,
+      kinded .before .before .arguments .ensures .0,
+    ) at (c .with-operands2 .ensures)
 
 pub call-spec : {M : Type 1} → statement M
 call-spec =
@@ -52,9 +70,12 @@ call-spec =
     mul-kind-at
     element-copy-out-kind-at
     kind-at-requires
-    call-sort-requires
-    cast-with-operands
-    mul-with-operands
-    add-with-operands
+    cast-small
+    mul-small
+    add-small
     with-operands-requires
+    places-requires
+    leaves-requires
+    call-sort-requires
+    with-operands-requires-2
     returns)

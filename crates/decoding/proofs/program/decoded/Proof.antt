@@ -87,42 +87,42 @@ constant-requires-6 : tie.Need-constant-requires-6
 constant-requires-6 c κs = search needs
 
 returns : tie.Need-returns
-returns c = c .constant .ensures ∙ sym (ap (decodedBy _ _ _ _ _) (c .before .enum-told .given .1))
+returns c = c .constant .ensures ∙ sym (ap (decodedBy _ _ _ _ _ _) (c .before .enum-told .given .1))
 
 returns-2 : tie.Need-returns-2
-returns-2 c = c .constant2 .ensures ∙ sym (ap (decodedBy _ _ _ _ _) (c .before .enum-told2 .given .1))
+returns-2 c = c .constant2 .ensures ∙ sym (ap (decodedBy _ _ _ _ _ _) (c .before .enum-told2 .given .1))
 
 returns-3 : tie.Need-returns-3
-returns-3 c = c .constant3 .ensures ∙ sym (ap (decodedBy _ _ _ _ _) (c .before .enum-told3 .given .1))
+returns-3 c = c .constant3 .ensures ∙ sym (ap (decodedBy _ _ _ _ _ _) (c .before .enum-told3 .given .1))
 
 returns-4 : tie.Need-returns-4
-returns-4 c = c .constant4 .ensures ∙ sym (ap (decodedBy _ _ _ _ _) (c .before .enum-told4 .given .1))
+returns-4 c = c .constant4 .ensures ∙ sym (ap (decodedBy _ _ _ _ _ _) (c .before .enum-told4 .given .1))
 
 returns-5 : tie.Need-returns-5
-returns-5 c = c .node2 .ensures ∙ sym (ap (decodedBy _ _ _ _ _) (c .before .before .node .given .1))
+returns-5 c = c .node2 .ensures ∙ sym (ap (decodedBy _ _ _ _ _ _) (c .before .before .node .given .1))
 
 returns-6 : tie.Need-returns-6
-returns-6 c = c .unary .ensures ∙ sym (ap (decodedBy _ _ _ _ _) (c .before .enum-told5 .given .1))
+returns-6 c = c .unary .ensures ∙ sym (ap (decodedBy _ _ _ _ _ _) (c .before .enum-told5 .given .1))
 
 returns-7 : tie.Need-returns-7
-returns-7 c = c .unary2 .ensures ∙ sym (ap (decodedBy _ _ _ _ _) (c .before .enum-told6 .given .1))
+returns-7 c = c .unary2 .ensures ∙ sym (ap (decodedBy _ _ _ _ _ _) (c .before .enum-told6 .given .1))
 
 returns-8 : tie.Need-returns-8
-returns-8 c = c .unary3 .ensures ∙ sym (ap (decodedBy _ _ _ _ _) (c .before .enum-told7 .given .1))
+returns-8 c = c .unary3 .ensures ∙ sym (ap (decodedBy _ _ _ _ _ _) (c .before .enum-told7 .given .1))
 
 returns-9 : tie.Need-returns-9
 returns-9 c =
     (rw (c .before .param .ensures, c .before .before .conditional .ensures) at (c .with-operands .ensures))
-    ∙ sym (ap (decodedBy _ _ _ _ _) (c .before .before .before .enum-told8 .given .1))
+    ∙ sym (ap (decodedBy _ _ _ _ _ _) (c .before .before .before .enum-told8 .given .1))
 
 returns-10 : tie.Need-returns-10
-returns-10 c = c .constant5 .ensures ∙ sym (ap (decodedBy _ _ _ _ _) (c .before .enum-told9 .given .1))
+returns-10 c = c .constant5 .ensures ∙ sym (ap (decodedBy _ _ _ _ _ _) (c .before .enum-told9 .given .1))
 
 returns-11 : tie.Need-returns-11
-returns-11 c = c .call .ensures ∙ sym (ap (decodedBy _ _ _ _ _) (c .before .before .node3 .given .1))
+returns-11 c = c .call .ensures ∙ sym (ap (decodedBy _ _ _ _ _ _) (c .before .before .node3 .given .1))
 
 returns-12 : tie.Need-returns-12
-returns-12 c = c .constant6 .ensures ∙ sym (ap (decodedBy _ _ _ _ _) (c .before .enum-told10 .given .1))
+returns-12 c = c .constant6 .ensures ∙ sym (ap (decodedBy _ _ _ _ _ _) (c .before .enum-told10 .given .1))
 
 pub decoded-spec : {M : Type 1} → statement M
 decoded-spec =

@@ -37,45 +37,45 @@ element-copy-out-next : tie.Need-element-copy-out-next Inv-loop μ-loop
 element-copy-out-next c = omega (arith, c .before .before .before .loop .inv .below, c .before .before .before .before .smaller .ensures)
 
 add-decoded : tie.Need-add-decoded Inv-loop μ-loop
-add-decoded c = omega (arith, c .before .before .before .before .before .loop .inv .below, c .before .before .before .before .before .before .smaller .ensures)
+add-decoded c = omega (arith, c .before .before .before .before .before .before .loop .inv .below, c .before .before .before .before .before .before .before .smaller .ensures)
 
 cast-decoded : tie.Need-cast-decoded Inv-loop μ-loop
-cast-decoded c = omega (arith, c .before .before .before .before .before .loop .inv .below, c .before .before .before .before .before .before .smaller .ensures)
+cast-decoded c = omega (arith, c .before .before .before .before .before .before .loop .inv .below, c .before .before .before .before .before .before .before .smaller .ensures)
 
 decoded-requires : tie.Need-decoded-requires Inv-loop μ-loop
 decoded-requires c κs = search needs
 
 mul-words : tie.Need-mul-words Inv-loop μ-loop
-mul-words c = omega (arith, c .before .before .before .before .before .before .loop .inv .below, c .before .before .before .before .before .before .before .smaller .ensures)
+mul-words c = omega (arith, c .before .before .before .before .before .before .before .loop .inv .below, c .before .before .before .before .before .before .before .before .smaller .ensures)
 
 element-write-words : tie.Need-element-write-words Inv-loop μ-loop
-element-write-words c = omega (arith, c .before .before .before .before .before .before .loop .inv .below, c .before .before .before .before .before .before .before .smaller .ensures)
+element-write-words c = omega (arith, c .before .before .before .before .before .before .before .loop .inv .below, c .before .before .before .before .before .before .before .before .smaller .ensures)
 
 operands-requires : tie.Need-operands-requires Inv-loop μ-loop
 operands-requires c κs = search needs
 
 add-end-after : tie.Need-add-end-after Inv-loop μ-loop
-add-end-after c = omega (arith, c .before .before .before .before .before .before .before .before .loop .inv .below, c .before .before .before .before .before .before .before .before .before .smaller .ensures)
+add-end-after c = omega (arith, c .before .before .before .before .before .before .before .before .before .loop .inv .below, c .before .before .before .before .before .before .before .before .before .before .smaller .ensures)
 
 cast-end-after : tie.Need-cast-end-after Inv-loop μ-loop
-cast-end-after c = omega (arith, c .before .before .before .before .before .before .before .before .loop .inv .below, c .before .before .before .before .before .before .before .before .before .smaller .ensures)
+cast-end-after c = omega (arith, c .before .before .before .before .before .before .before .before .before .loop .inv .below, c .before .before .before .before .before .before .before .before .before .before .smaller .ensures)
 
 end-after-requires : tie.Need-end-after-requires Inv-loop μ-loop
 end-after-requires c κs = search needs
 
 mul-ends : tie.Need-mul-ends Inv-loop μ-loop
-mul-ends c = omega (arith, c .before .before .before .before .before .before .before .before .before .loop .inv .below, c .before .before .before .before .before .before .before .before .before .before .smaller .ensures)
+mul-ends c = omega (arith, c .before .before .before .before .before .before .before .before .before .before .loop .inv .below, c .before .before .before .before .before .before .before .before .before .before .before .smaller .ensures)
 
 array-write-ends : tie.Need-array-write-ends Inv-loop μ-loop
-array-write-ends c = omega (arith, c .before .before .before .before .before .before .before .before .before .loop .inv .below, c .before .before .before .before .before .before .before .before .before .before .smaller .ensures)
+array-write-ends c = omega (arith, c .before .before .before .before .before .before .before .before .before .before .loop .inv .below, c .before .before .before .before .before .before .before .before .before .before .before .smaller .ensures)
 
 loop-less : tie.Need-loop-less Inv-loop μ-loop
 loop-less c = omega arith
 
 loop-again : tie.Need-loop-again Inv-loop μ-loop
 loop-again c =
-    let swept = c .before .before .before .before .before .before .before .before in
-    swept-more _ _ _ _ _ _ (swept .before .loop .inv) (swept .loop-test .taken) (c .before .before .before .before .before .before .node-of .ensures) refl (c .before .before .before .decoded .ensures)
+    let swept = c .before .before .before .before .before .before .before .before .before in
+    swept-more _ _ _ _ _ _ (swept .before .loop .inv) (swept .loop-test .taken) (c .before .before .before .before .before .before .before .node-of .ensures) refl (c .before .before .before .decoded .ensures)
     (c .before .operands .ensures) (c .end-after .ensures)
 
 returns : tie.Need-returns Inv-loop μ-loop

@@ -4,28 +4,21 @@ use Prim.Native.Nat.{ℕ, _+_, _≤_}
 use native.Mathlib.Omega.{arith}
 use borrow.Author.Needs.{needs}
 use Rattle.passes.specs.Mirror.{stepped}
-use Rattle.codes.proofs.Bounds.{radix-small, lowest-small}
 use Rattle.passes.proofs.Rows.{step-stops, step-goes, step-whole}
 use Rattle.passes.proofs.configurations.step.Statement.{statement}
 use Rattle.passes.proofs.configurations.step.Tie as tie
 
 abbrev Inv-loop : tie.InvT-loop
-Inv-loop signature count n env₀ i₀ env i = (i ≤ count) × (stepped signature n count env₀ ≡ stepped signature n i env)
+Inv-loop firsts lasts count env₀ i₀ env i = (i ≤ count) × (stepped firsts lasts count env₀ ≡ stepped firsts lasts i env)
 
 abbrev μ-loop : tie.MeasureT-loop
-μ-loop signature count n env₀ i₀ env i = i
+μ-loop firsts lasts count env₀ i₀ env i = i
 
 loop-holds : tie.Need-loop-holds Inv-loop μ-loop
 loop-holds c = (omega arith, refl)
 
 sub-i : tie.Need-sub-i Inv-loop μ-loop
 sub-i c = omega arith
-
-kind-at-requires : tie.Need-kind-at-requires Inv-loop μ-loop
-kind-at-requires c κs = search needs
-
-lowest-requires : tie.Need-lowest-requires Inv-loop μ-loop
-lowest-requires c κs = search needs
 
 mul-wide : tie.Need-mul-wide Inv-loop μ-loop
 mul-wide c = omega arith
@@ -39,14 +32,17 @@ wide-requires c κs = search needs
 add-next : tie.Need-add-next Inv-loop μ-loop
 add-next c = omega (arith, c .wide .ensures .1)
 
-radix-requires : tie.Need-radix-requires Inv-loop μ-loop
-radix-requires c κs = search needs
+mul-wide-2 : tie.Need-mul-wide-2 Inv-loop μ-loop
+mul-wide-2 c = omega arith
 
-add-if1 : tie.Need-add-if1 Inv-loop μ-loop
-add-if1 c = omega (arith, lowest-small (c .before .before .before .before .kind-at .result), c .before .before .before .lowest .ensures, radix-small (c .before .before .before .before .kind-at .result) _ (c .before .before .before .before .before .before .before .pre .1), c .radix .ensures)
+element-copy-out-wide-2 : tie.Need-element-copy-out-wide-2 Inv-loop μ-loop
+element-copy-out-wide-2 c = omega arith
+
+wide-requires-2 : tie.Need-wide-requires-2 Inv-loop μ-loop
+wide-requires-2 c κs = search needs
 
 cast-env : tie.Need-cast-env Inv-loop μ-loop
-cast-env c = omega (arith, c .if1 .taken, lowest-small (c .before .before .before .before .before .kind-at .result), c .before .before .before .before .lowest .ensures, radix-small (c .before .before .before .before .before .kind-at .result) _ (c .before .before .before .before .before .before .before .before .pre .1), c .before .radix .ensures)
+cast-env c = omega (arith, c .if1 .taken, c .before .wide2 .ensures .1)
 
 mul-env : tie.Need-mul-env Inv-loop μ-loop
 mul-env c = omega arith
@@ -56,14 +52,18 @@ element-write-env c = omega arith
 
 returns : tie.Need-returns Inv-loop μ-loop
 returns c =
-    step-stops _ _ _ _ (c .before .before .before .before .before .before .loop-test .taken) (c .before .before .before .before .before .kind-at .ensures .0) (c .before .before .before .before .lowest .ensures) (c .before .radix .ensures)
-    (ap (λ (v : ℕ). v + 1) (c .before .before .wide .ensures .0)) (c .if1 .taken) (c .before .before .before .before .before .before .before .loop .inv .1)
-
-cast-env-2 : tie.Need-cast-env-2 Inv-loop μ-loop
-cast-env-2 c = omega (arith, lowest-small (c .before .before .before .before .before .kind-at .result), c .before .before .before .before .lowest .ensures, radix-small (c .before .before .before .before .before .kind-at .result) _ (c .before .before .before .before .before .before .before .before .pre .1), c .before .radix .ensures)
+    let taken = c .before .before .before in
+    let inside = taken .before .before in
+    step-stops _ _ _ _ (inside .loop-test .taken) (ap (λ (v : ℕ). v + 1) (taken .wide .ensures .0)) (c .before .wide2 .ensures .0) (c .if1 .taken) (inside .before .loop .inv .1)
 
 mul-env-2 : tie.Need-mul-env-2 Inv-loop μ-loop
 mul-env-2 c = omega arith
+
+element-copy-out-env : tie.Need-element-copy-out-env Inv-loop μ-loop
+element-copy-out-env c = omega arith
+
+mul-env-3 : tie.Need-mul-env-3 Inv-loop μ-loop
+mul-env-3 c = omega arith
 
 element-write-env-2 : tie.Need-element-write-env-2 Inv-loop μ-loop
 element-write-env-2 c = omega arith
@@ -72,11 +72,10 @@ loop-less : tie.Need-loop-less Inv-loop μ-loop
 loop-less c = omega arith
 
 loop-again : tie.Need-loop-again Inv-loop μ-loop
-loop-again c = (
-  omega arith,
-  step-goes _ _ _ _ (c .before .before .before .before .before .before .loop-test .taken) (c .before .before .before .before .before .kind-at .ensures .0) (c .before .before .before .before .lowest .ensures) (c .before .radix .ensures)
-      (ap (λ (v : ℕ). v + 1) (c .before .before .wide .ensures .0)) (c .if1 .left) (c .before .before .before .before .before .before .before .loop .inv .1),
-)
+loop-again c =
+    let taken = c .before .before .before .before in
+    let inside = taken .before .before in
+    (omega arith, step-goes _ _ _ _ (inside .loop-test .taken) (ap (λ (v : ℕ). v + 1) (taken .wide .ensures .0)) (c .before .before .wide2 .ensures .0) (c .before .if1 .left) refl (inside .before .loop .inv .1))
 
 returns-2 : tie.Need-returns-2 Inv-loop μ-loop
 returns-2 c = step-whole _ _ _ _ (c .before .loop .inv .1) (c .loop-test .left)
@@ -89,20 +88,20 @@ step-spec =
     μ-loop
     loop-holds
     sub-i
-    kind-at-requires
-    lowest-requires
     mul-wide
     element-copy-out-wide
     wide-requires
     add-next
-    radix-requires
-    add-if1
+    mul-wide-2
+    element-copy-out-wide-2
+    wide-requires-2
     cast-env
     mul-env
     element-write-env
     returns
-    cast-env-2
     mul-env-2
+    element-copy-out-env
+    mul-env-3
     element-write-env-2
     loop-less
     loop-again
