@@ -64,11 +64,16 @@ compare: ## compare the library with the second implementation in Rust, ten time
 BENCH_CC = gcc clang
 # Turns of each workload; empty for the program's own number.
 BENCH_TURNS =
+# How many bytes past a multiple of 64 the library's code begins, a table for each: times move with it.
+BENCH_PLACES = 0
 
 bench: ## time the library beside the same work in C: one table for each C compiler there is
 	@tools/prove staticlib gateway
 	@for c in $(BENCH_CC); do \
 	  command -v $$c >/dev/null || continue; \
-	  $$c -std=c99 -pedantic -Wall -Wextra -O3 -Iinclude bench/*.c target/staticlib/libgateway.a -o target/bench || exit 1; \
-	  echo "C by $$c -O3"; target/bench $(BENCH_TURNS) || exit 1; \
+	  for p in $(BENCH_PLACES); do \
+	    printf '.section .note.GNU-stack\n.text\n.balign 64\n.rept %d\nnop\n.endr\n' $$p >target/place.s; \
+	    $$c -std=c99 -pedantic -Wall -Wextra -O3 -Iinclude bench/*.c target/place.s target/staticlib/libgateway.a -o target/bench || exit 1; \
+	    echo "C by $$c -O3, the library at $$p"; target/bench $(BENCH_TURNS) || exit 1; \
+	  done; \
 	done

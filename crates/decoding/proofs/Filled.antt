@@ -9,7 +9,7 @@ use mathlib.Core.Path.{_≡_, sym, _∙_}
 use mathlib.Core.List.{List}
 use lib.ListN.{length, getD, replicate}
 use borrow.Author.Tests.{ne-eqb}
-use Rattle.syntax.specs.Limits.{mostFunctions, mostBytes}
+use Rattle.syntax.specs.Limits.{mostFunctions, mostBody, mostBytes}
 use Rattle.syntax.specs.Kinds.{kindIn}
 use Rattle.codes.specs.declared.Lengths.{Lengths}
 use Rattle.decoding.specs.Words.{functionsFrom, stride, mostWords, functionWord, kindWord}
@@ -42,7 +42,7 @@ module _ (code params functions : List ℕ) (count : ℕ) (n : Lengths) (z : Lis
   words = wordsFilled code params functions count n z
 
   abbrev zeros : List ℕ
-  zeros = replicate mostBytes 0
+  zeros = replicate mostBody 0
 
   whole : words ≡ wordsDown code params functions zeros (length code) 0 (entriesUpto functions n (stride * count) z)
   unfolding wordsFilled

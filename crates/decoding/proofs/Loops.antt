@@ -11,7 +11,7 @@ use native.Mathlib.Numerals.{add-one, sub-one}
 use native.Mathlib.Omega.{arith}
 use lib.ListN.{getD, set, replicate}
 use Rattle.syntax.specs.declared.Node.{Node}
-use Rattle.syntax.specs.Limits.{mostBytes}
+use Rattle.syntax.specs.Limits.{mostBody}
 use Rattle.syntax.specs.Bytes.{nodeOf}
 use Rattle.codes.specs.declared.Lengths.{Lengths}
 use Rattle.decoding.specs.Words.{functionsFrom, isLeaf}
@@ -55,7 +55,7 @@ leaves-whole words (suc left) rest e h = absurd (omega arith)
 
 module _ (code params functions words₀ : List ℕ) (len : ℕ) where
   abbrev zeros : List ℕ
-  zeros = replicate mostBytes 0
+  zeros = replicate mostBody 0
 
   -- the places from `at` on have their words and ends
   pub record Swept (E W : List ℕ) (at : ℕ) : Type 0 where
@@ -70,7 +70,7 @@ module _ (code params functions words₀ : List ℕ) (len : ℕ) where
   pub swept-more : (at : ℕ) {ends words : List ℕ} {node : Node} {next word end count : ℕ} → Swept ends words at → 0 < at
       → node ≡ nodeOf (getD code (at - 1) 0) → next ≡ getD words (at - 1 + 1) 0 → word ≡ decodedBy params functions ends words (at - 1 + 1) next node
       → count ≡ operandsOf params node → end ≡ endsAfter ends count (at - 1 + 1)
-      → Swept (set ends (at - 1) end) (set words (at - 1) word) (at - 1)
+      → Swept (set ends ((at - 1) % mostBody) end) (set words (at - 1) word) (at - 1)
   unfolding endsDown wordsDown endBy wordBy
   swept-more zero u h n x w c e = absurd (omega arith)
   swept-more (suc at) u h n x w c e =

@@ -10,7 +10,7 @@ use Rattle.codes.specs.declared.Lengths.{Lengths}
 use Rattle.codes.specs.{guardCode}
 use Rattle.syntax.specs.declared.Node.{Node}
 use Rattle.syntax.specs.declared.Node.the-variants as node
-use Rattle.syntax.specs.Limits.{mostFunctions, mostBytes}
+use Rattle.syntax.specs.Limits.{mostFunctions, mostBody, mostBytes}
 use Rattle.syntax.specs.Bytes.{nodeOf}
 use Rattle.syntax.specs.Kinds.{guardKind, kindIn}
 use Rattle.rule.specs.Walk.{atMostFour}
@@ -18,8 +18,10 @@ use Rattle.decoding.specs.Words.{constantSort, paramSort, headSort, tail
 
 -- ---- Where expressions end
 
+-- The end of the expression at a place stands at the place's remainder by the most bytes of a body. An expression lies within
+-- a body, so the ends of all that is in one at once have places of their own.
 unfoldable pub endAt : List ℕ → ℕ → ℕ
-endAt ends at = cond (ltb at mostBytes) (getD ends at 0) mostBytes
+endAt ends at = getD ends (at % mostBody) 0
 
 -- the end of so many expressions, one after the other
 unfoldable pub endsAfter : List ℕ → ℕ → ℕ → ℕ
@@ -52,7 +54,7 @@ endBy code params ends at = endsAfter ends (operandsOf params (nodeOf (getD code
 -- the ends at so many places from a place on, worked out backwards from the last
 unfoldable pub endsDown : List ℕ → List ℕ → ℕ → ℕ → List ℕ → List ℕ
 endsDown code params zero at ends = ends
-endsDown code params (suc k) at ends = let later = endsDown code params k (at + 1) ends in set later at (endBy code params later at)
+endsDown code params (suc k) at ends = let later = endsDown code params k (at + 1) ends in set later (at % mostBody) (endBy code params later at)
 
 -- ---- Nodes
 
@@ -143,5 +145,5 @@ entriesUpto functions n (suc k) words = set (entriesUpto functions n k words) (f
 -- passed over
 unfoldable pub wordsFilled : List ℕ → List ℕ → List ℕ → ℕ → Lengths → List ℕ → List ℕ
 wordsFilled program params functions count n words =
-    wordsDown program params functions (replicate mostBytes 0) (min mostBytes (length program)) 0
+    wordsDown program params functions (replicate mostBody 0) (min mostBytes (length program)) 0
     (entriesUpto functions n (stride * min count mostFunctions) words)

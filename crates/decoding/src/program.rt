@@ -9,13 +9,14 @@ use syntax::Node;
 ghost use mathlib.Core.Path.{_≡_};
 ghost use Prim.Native.Nat.{_*_, _<_, _≤_, min};
 ghost use lib.ListN.{length, replicate};
-ghost use Rattle.syntax.specs.Limits.{mostFunctions, mostParams, mostBytes};
+ghost use Rattle.syntax.specs.Limits.{mostFunctions, mostParams, mostBody, mostBytes};
 ghost use Rattle.decoding.specs.Words.{stride};
 ghost use Rattle.decoding.specs.Decoding.{endAt, endsAfter, argumentsOf, operandsOf, constantBy, unaryBy, conditionalBy, placed, leavesIn, callSortOf, calledBy};
 ghost use Rattle.decoding.specs.Decoding.{decodedBy, entryOf, entriesUpto, wordsDown, wordsFilled};
 
-// Where an expression ends that starts past the bytes of a program.
-const PAST: u16 = syntax::MOST_BYTES as u16;
+// Ends of expressions stand by the remainders of their places: an expression lies within a body, so the ends of the
+// places that the longest body takes are enough.
+const ENDS: usize = syntax::MOST_BODY;
 
 // Writes the words of a program and of so many functions, at most 32. `functions` has their first cells from 0
 // on and their signatures from 32 on; `n` are the lengths of the traces. A program's bytes beyond the longest are passed
@@ -63,16 +64,16 @@ fn entry(functions: &[u64; 96], n: Lengths, k: usize) -> u64
 // Decodes a program from its last byte to its first, each node by those after it. Bytes that begin no
 // expression are decoded too; nothing leads to them.
 fn put_nodes(program: &[u8], params: &[u8; 32], functions: &[u64; 96], words: &mut [u64; WORDS])
-    ensures { λ _. ⌜ now (words .exit) ≡ wordsDown (now (program .entry)) (now (params .entry)) (now (functions .entry)) (replicate mostBytes 0) (min mostBytes (length (now (program .entry)))) 0 (now (words .entry)) ⌝ }
+    ensures { λ _. ⌜ now (words .exit) ≡ wordsDown (now (program .entry)) (now (params .entry)) (now (functions .entry)) (replicate mostBody 0) (min mostBytes (length (now (program .entry)))) 0 (now (words .entry)) ⌝ }
 {
-    let mut ends = [0u16; syntax::MOST_BYTES];
+    let mut ends = [0u16; ENDS];
     let mut at = codes::smaller(syntax::MOST_BYTES, program.len());
     while 0 < at {
         at -= 1;
         let node = syntax::node_of(program[at]);
         let next = words[at + 1];
         words[at] = decoded(params, functions, &ends, words, (at + 1) as u16, next, node);
-        ends[at] = end_after(&ends, operands(params, node), (at + 1) as u16);
+        ends[at % ENDS] = end_after(&ends, operands(params, node), (at + 1) as u16);
     }
 }
 
@@ -81,7 +82,7 @@ fn put_nodes(program: &[u8], params: &[u8; 32], functions: &[u64; 96], words: &m
 fn decoded(
     params: &[u8; 32],
     functions: &[u64; 96],
-    ends: &[u16; syntax::MOST_BYTES],
+    ends: &[u16; ENDS],
     words: &[u64; WORDS],
     first: u16,
     next: u64,
@@ -143,7 +144,7 @@ fn conditional(condition: u64) -> u64
 fn call(
     params: &[u8; 32],
     functions: &[u64; 96],
-    ends: &[u16; syntax::MOST_BYTES],
+    ends: &[u16; ENDS],
     words: &[u64; WORDS],
     g: u8,
     first: u16,
@@ -192,7 +193,7 @@ fn call_sort(result: u8, count: u64, leaves: bool) -> u64
 }
 
 // A node whose operands stand one after the other from a place on.
-fn with_operands(ends: &[u16; syntax::MOST_BYTES], sort: u64, small: u64, first: u16) -> u64
+fn with_operands(ends: &[u16; ENDS], sort: u64, small: u64, first: u16) -> u64
     ensures { λ r. ⌜ r ≡ placed (now (ends .entry)) sort small first ⌝ }
 {
     let second = end_at(ends, first);
@@ -202,14 +203,14 @@ fn with_operands(ends: &[u16; syntax::MOST_BYTES], sort: u64, small: u64, first:
 }
 
 // Where the expression at a place ends.
-fn end_at(ends: &[u16; syntax::MOST_BYTES], at: u16) -> u16
+fn end_at(ends: &[u16; ENDS], at: u16) -> u16
     ensures { λ r. ⌜ r ≡ endAt (now (ends .entry)) at ⌝ }
 {
-    if at < PAST { ends[at as usize] } else { PAST }
+    ends[at as usize % ENDS]
 }
 
 // The end of so many expressions, one after the other from a place on.
-fn end_after(ends: &[u16; syntax::MOST_BYTES], count: u64, first: u16) -> u16
+fn end_after(ends: &[u16; ENDS], count: u64, first: u16) -> u16
     ensures { λ r. ⌜ r ≡ endsAfter (now (ends .entry)) count first ⌝ }
 {
     let mut left = count;

@@ -7,7 +7,7 @@ use mathlib.Core.Path.{_≡_, refl, ap, _∙_}
 use mathlib.Core.Bool.{true, false}
 use mathlib.Core.List.{List, [], _∷_, _++_, append-assoc}
 use mathlib.Core.Option.{Option, none, some}
-use lib.ListN.{length, getElem?, getD, drop}
+use lib.ListN.{length, getElem?, getD, drop, length-append}
 use Rattle.semantics.specs.declared.Contact.the-variants.{Ram, Guard}
 use Rattle.semantics.specs.declared.Error.the-variants.{Head, Tail}
 use Rattle.semantics.specs.declared.Outcome.{Outcome}
@@ -20,7 +20,7 @@ use Rattle.semantics.proofs.Demands.{allows-own}
 use Rattle.semantics.proofs.Bodies.{kinded}
 use Rattle.semantics.proofs.Visits.{lookup-kinds}
 use Rattle.syntax.specs.declared.Node.{Node}
-use Rattle.syntax.specs.Limits.{mostParams}
+use Rattle.syntax.specs.Limits.{mostParams, mostBody}
 use Rattle.syntax.specs.Kinds.{kindNumber, kindIn}
 use Rattle.rule.specs.Form.{encodeExpr, encodeArgs, depth, depthAll}
 use Rattle.syntax.specs.Bytes.{nodeOf}
@@ -154,15 +154,17 @@ module _ (P : Program) (t : Traces) (n : Lengths) (bytes W traces : List ℕ) (s
         applies null = null-means t (s .samples) (bodyOutcome t calls vs e) list
 
     module _ (low : ℕ) (ends : List ℕ) (u : Ends P bytes low ends) where
-      if-node : (c a b : Expr) (δ : Demand) (at : ℕ) (rest : List ℕ) → low ≤ at → Means c → Means a → Means b → Meets P Γ δ (ifte c a b)
+      if-node : (c a b : Expr) (δ : Demand) (at : ℕ) (rest : List ℕ) → low ≤ at
+          → at + length (encodeExpr c) + length (encodeExpr a) + length (encodeExpr b) ≤ low + mostBody → Means c → Means a → Means b → Meets P Γ δ (ifte c a b)
           → drop at bytes ≡ encodeExpr c ++ (encodeExpr a ++ (encodeExpr b ++ rest))
           → Within low ends 3 at
           × (choice ev (endAt ends at) (endAt ends (endAt ends at)) (ev at) ≡ workingContent (bodyOutcome t calls vs (ifte c a b)))
       unfolding bodyOutcome
-      if-node c a b δ at rest l hc ha hb m h =
-          let first = after-operand P bytes (s .short) low ends u Γ narrow (only truth) c at _ l (m .0) h in
-          let second = after-operand P bytes (s .short) low ends u Γ narrow δ a (endAt ends at) _ (first .above) (m .1) (first .rest) in
-          let third = after-operand P bytes (s .short) low ends u Γ narrow δ b (endAt ends (endAt ends at)) rest (second .above) (m .2) (second .rest) in (
+      if-node c a b δ at rest l near hc ha hb m h =
+          let first = after-operand P bytes low ends u Γ narrow (only truth) c at _ l (omega arith) (m .0) h in
+          let second = after-operand P bytes low ends u Γ narrow δ a (endAt ends at) _ (first .above) (omega (arith, near, first .end)) (m .1) (first .rest) in
+          let third = after-operand P bytes low ends u Γ narrow δ b (endAt ends (endAt ends at)) rest (second .above) (omega (arith, near, first .end, second .end)) (m .2)
+          (second .rest) in (
             (
               l,
               omega (arith, first .within, s .short),
@@ -174,101 +176,108 @@ module _ (P : Program) (t : Traces) (n : Lengths) (bytes W traces : List ℕ) (s
           )
 
       -- arguments stand at places that fit a word
-      args-within : (xs : Args) (κs : List Kind) (at : ℕ) (rest : List ℕ) → low ≤ at → MeetAll P Γ κs xs → drop at bytes ≡ encodeArgs xs ++ rest
-          → Within low ends (length κs) at
+      args-within : (xs : Args) (κs : List Kind) (at : ℕ) (rest : List ℕ) → low ≤ at → at + length (encodeArgs xs) ≤ low + mostBody → MeetAll P Γ κs xs
+          → drop at bytes ≡ encodeArgs xs ++ rest → Within low ends (length κs) at
       unfolding encodeArgs
-      args-within noArgs κs at rest l m h = rw m tt
-      args-within (arg e xs) κs at rest l m h =
+      args-within noArgs κs at rest l near m h = rw m tt
+      args-within (arg e xs) κs at rest l near m h =
           let here : drop at bytes ≡ encodeExpr e ++ (encodeArgs xs ++ rest) = h ∙ append-assoc (encodeExpr e) (encodeArgs xs) rest in
-          let first = after-operand P bytes (s .short) low ends u Γ narrow (only (m .0)) e at (encodeArgs xs ++ rest) l (m .3) here in
-          rw (m .2)
-          (l, omega (arith, first .within, s .short), args-within xs (m .1) (endAt ends at) rest (first .above) (m .4) (first .rest))
+          let both = length-append (encodeExpr e) (encodeArgs xs) in
+          let first = after-operand P bytes low ends u Γ narrow (only (m .0)) e at (encodeArgs xs ++ rest) l (omega (arith, near, both)) (m .3) here in
+          rw (m .2) (
+            l,
+            omega (arith, first .within, s .short),
+            args-within xs (m .1) (endAt ends at) rest (first .above) (omega (arith, near, both, first .end)) (m .4) (first .rest),
+          )
 
       abbrev MeansAll : Args → Type 0
       MeansAll xs = (g : ℕ) (κs : List Kind) (i index places at : ℕ) (rest : List ℕ) (k : List Value → Option Outcome)
-          → MeetAll P Γ κs xs → Due t n W T g κs i index k → low ≤ at → Stand ends (length κs) places at
+          → MeetAll P Γ κs xs → Due t n W T g κs i index k → low ≤ at → at + length (encodeArgs xs) ≤ low + mostBody → Stand ends (length κs) places at
           → drop at bytes ≡ encodeArgs xs ++ rest
           → argsIn W T ev g (length κs) i index places ≡ contentOf (withValues Failed (argsOutcome t calls vs xs) k)
 
       arg-node : (e : Expr) (xs : Args) → Means e → MeansAll xs → MeansAll (arg e xs)
       unfolding bodyOutcome encodeArgs
-      arg-node e xs he ih g κs i index places at rest k m due l st h =
+      arg-node e xs he ih g κs i index places at rest k m due l near st h =
           let due′ : Due t n W T g (m .0 ∷ m .1) i index k = rw (m .2) at due in
           let st′ : Stand ends (length (m .0 ∷ m .1)) places at = rw (m .2) at st in
           let here : drop at bytes ≡ encodeExpr e ++ (encodeArgs xs ++ rest) = h ∙ append-assoc (encodeExpr e) (encodeArgs xs) rest in
-          let first = after-operand P bytes (s .short) low ends u Γ narrow (only (m .0)) e at (encodeArgs xs ++ rest) l (m .3) here in
+          let both = length-append (encodeExpr e) (encodeArgs xs) in
+          let first = after-operand P bytes low ends u Γ narrow (only (m .0)) e at (encodeArgs xs ++ rest) l (omega (arith, near, both)) (m .3) here in
           rw (m .2)
           (args-one t n W T g i index k (m .0) (m .1) due′ (s .samples) (s .lengths) ev at places (bodyOutcome t calls vs e) (argsOutcome t calls vs xs)
           (of-demand e (only (m .0)) (m .3)) (st′ .0) (he (only (m .0)) at (encodeArgs xs ++ rest) (m .3) here)
           (λ v hv. ih g (m .1) (suc i) _ (places / 4096) (endAt ends at) rest _ (m .4) (due-next t n W T g i index k (m .0) (m .1) due′ v hv)
-          (first .above) (st′ .1) (first .rest)))
+          (first .above) (omega (arith, near, both, first .end)) (st′ .1) (first .rest)))
 
   -- ---- Expressions
 
   mutual
     unfolding bodyOutcome encodeExpr encodeArgs depth depthAll
 
-    pub eval-means : (e : Expr) (δ : Demand) (d at : ℕ) (rest : List ℕ) → Meets P Γ δ e → depth e ≤ d → drop at bytes ≡ encodeExpr e ++ rest
+    pub eval-means : (e : Expr) (δ : Demand) (d at : ℕ) (rest : List ℕ) → Meets P Γ δ e → depth e ≤ d → length (encodeExpr e) ≤ mostBody → drop at bytes ≡ encodeExpr e ++ rest
         → evalAt W traces T env d at ≡ workingContent (bodyOutcome t (lookup P t T) vs e)
-    eval-means (constant b) δ zero at rest m h q = absurd (omega arith)
-    eval-means (constant false) δ (suc d) at rest m h q =
+    eval-means (constant b) δ zero at rest m h fits q = absurd (omega arith)
+    eval-means (constant false) δ (suc d) at rest m h fits q =
         at-word (suc d) at (decoded at _ _ _ q node-false .word) ∙ constant-word W traces T env d falseCode (omega arith)
-    eval-means (constant true) δ (suc d) at rest m h q =
+    eval-means (constant true) δ (suc d) at rest m h fits q =
         at-word (suc d) at (decoded at _ _ _ q node-true .word) ∙ constant-word W traces T env d trueCode (omega arith)
-    eval-means (empty c) δ zero at rest m h q = absurd (omega arith)
-    eval-means (empty Ram) δ (suc d) at rest m h q =
+    eval-means (empty c) δ zero at rest m h fits q = absurd (omega arith)
+    eval-means (empty Ram) δ (suc d) at rest m h fits q =
         at-word (suc d) at (decoded at _ _ _ q node-empty .word) ∙ constant-word W traces T env d suffixCode (omega arith)
-    eval-means (empty Guard) δ (suc d) at rest m h q =
+    eval-means (empty Guard) δ (suc d) at rest m h fits q =
         at-word (suc d) at (decoded at _ _ _ q node-empty-guard .word) ∙ constant-word W traces T env d guardCode (omega arith)
-    eval-means (param i) δ zero at rest m h q = absurd (omega arith)
-    eval-means (param i) δ (suc d) at rest m h q =
+    eval-means (param i) δ zero at rest m h fits q = absurd (omega arith)
+    eval-means (param i) δ (suc d) at rest m h fits q =
         let l : i < 4 = omega (arith, place-below Γ i (m .0) (m .1), narrow) in
         at-word (suc d) at (decoded at _ _ _ q (node-param l) .word) ∙ param-word W traces T env d i l ∙ param-value i (m .0) (m .1)
-    eval-means (op p e) δ zero at rest m h q = absurd (omega arith)
-    eval-means (op p e) δ (suc zero) at rest m h q = absurd (omega (arith, depth-pos e))
-    eval-means (op p e) δ (suc (suc d)) at rest m h q =
+    eval-means (op p e) δ zero at rest m h fits q = absurd (omega arith)
+    eval-means (op p e) δ (suc zero) at rest m h fits q = absurd (omega (arith, depth-pos e))
+    eval-means (op p e) δ (suc (suc d)) at rest m h fits q =
         let l : depth e ≤ suc d = omega arith in
         let x = decoded at _ _ _ q (node-op p) in
         let after = bytes-after bytes at q in
-        let place = after-operand P bytes (s .short) (at + 1) (x .ends) (x .right) Γ narrow (operandDemand p δ) e (at + 1) rest (omega arith) (m .1) after in
+        let place = after-operand P bytes (at + 1) (x .ends) (x .right) Γ narrow (operandDemand p δ) e (at + 1) rest (omega arith) (omega (arith, fits)) (m .1) after in
         at-word (suc (suc d)) at (x .word)
         ∙ op-word W traces T env (s .counts) (s .array) (x .ends) (x .later) p d (at + 1) (omega (arith, place .within, s .short))
-        ∙ op-node (eval (suc d)) p e δ (at + 1) rest (λ δ′ to r k w. eval-means e δ′ (suc d) to r k l w) m after
-    eval-means (ifte c a b) δ zero at rest m h q = absurd (omega arith)
-    eval-means (ifte c a b) δ (suc zero) at rest m h q = absurd (omega (arith, depth-pos c))
-    eval-means (ifte c a b) δ (suc (suc d)) at rest m h q =
+        ∙ op-node (eval (suc d)) p e δ (at + 1) rest (λ δ′ to r k w. eval-means e δ′ (suc d) to r k l (omega (arith, fits)) w) m after
+    eval-means (ifte c a b) δ zero at rest m h fits q = absurd (omega arith)
+    eval-means (ifte c a b) δ (suc zero) at rest m h fits q = absurd (omega (arith, depth-pos c))
+    eval-means (ifte c a b) δ (suc (suc d)) at rest m h fits q =
         let lc : depth c ≤ suc d = omega arith in
         let la : depth a ≤ suc d = omega arith in
         let lb : depth b ≤ suc d = omega arith in
+        let all : length (encodeExpr c ++ (encodeExpr a ++ encodeExpr b)) ≡ length (encodeExpr c) + (length (encodeExpr a) + length (encodeExpr b)) = simp length-append in
         let x = decoded at _ _ _ q node-if in
-        let node = if-node (eval (suc d)) (at + 1) (x .ends) (x .right) c a b δ (at + 1) rest (omega arith)
-        (λ δ′ to r k w. eval-means c δ′ (suc d) to r k lc w)
-        (λ δ′ to r k w. eval-means a δ′ (suc d) to r k la w)
-        (λ δ′ to r k w. eval-means b δ′ (suc d) to r k lb w) m
+        let node = if-node (eval (suc d)) (at + 1) (x .ends) (x .right) c a b δ (at + 1) rest (omega arith) (omega (arith, fits, all))
+        (λ δ′ to r k w. eval-means c δ′ (suc d) to r k lc (omega (arith, fits, all)) w)
+        (λ δ′ to r k w. eval-means a δ′ (suc d) to r k la (omega (arith, fits, all)) w)
+        (λ δ′ to r k w. eval-means b δ′ (suc d) to r k lb (omega (arith, fits, all)) w) m
         (bytes-after bytes at q ∙ append-four (encodeExpr c) (encodeExpr a) (encodeExpr b) rest) in
         at-word (suc (suc d)) at (x .word) ∙ if-word W traces T env (at + 1) (x .ends) d (at + 1) (node .0) ∙ node .1
-    eval-means (call g xs) δ zero at rest m h q = absurd (omega arith)
-    eval-means (call g xs) δ (suc d) at rest m h q =
+    eval-means (call g xs) δ zero at rest m h fits q = absurd (omega arith)
+    eval-means (call g xs) δ (suc d) at rest m h fits q =
         let l : depthAll xs ≤ d = omega arith in
         let f = m .0 in
         let below : g < 32 = omega (arith, place-below P g f (m .1), s .functions) in
         let few : length (f .params) ≤ 4 = s .params g f (m .1) in
         let x = decoded at _ _ _ q (node-call below) in
         let after = bytes-after bytes at q in
-        let inside = args-within (eval d) (at + 1) (x .ends) (x .right) xs (f .params) (at + 1) rest (omega arith) (m .3) after in
+        let inside = args-within (eval d) (at + 1) (x .ends) (x .right) xs (f .params) (at + 1) rest (omega arith) (omega (arith, fits)) (m .3) after in
         at-word (suc d) at (x .word ∙ called-by (at + 1) (x .ends) (x .later) g f (at + 1) (m .1) below few inside (x .kept))
         ∙ call-word W traces T env (x .ends) d g (length (f .params)) (at + 1) below few (args-deep P Γ xs (f .params) d (m .3) l) (kindNumber (f .result))
         ∙ ap (λ (k : ℕ). resultCode (kindNumber (f .result)) k)
         (args-mean xs d l (at + 1) (x .ends) (x .right) g (f .params) 0 0 _ (at + 1) rest
-        (calls g) (m .3) (due-first P t n bytes W traces s T g f (m .1)) (omega arith) (stand (x .ends) _ _ (at + 1) (at + 1) (length (f .params)) few inside) after)
+        (calls g) (m .3) (due-first P t n bytes W traces s T g f (m .1)) (omega arith) (omega (arith, fits)) (stand (x .ends) _ _ (at + 1) (at + 1) (length (f .params)) few inside) after)
         ∙ result-means t (s .samples) (f .result) (bodyOutcome t calls vs (call g xs)) (of-demand (call g xs) (only (f .result)) (f, m .1, allows-own (f .result), m .3))
 
     args-mean : (xs : Args) (d : ℕ) → depthAll xs ≤ d → (low : ℕ) (ends : List ℕ) (u : Ends P bytes low ends) → MeansAll (eval d) low ends u xs
-    args-mean noArgs d h low ends u g κs i index places at rest k m due l st w =
+    args-mean noArgs d h low ends u g κs i index places at rest k m due l near st w =
         rw m (args-none t n W T g i index k (rw m at due) (eval d) places)
-    args-mean (arg e xs) d h low ends u g κs i index places at rest k m due l st w =
+    args-mean (arg e xs) d h low ends u g κs i index places at rest k m due l near st w =
+        let both = length-append (encodeExpr e) (encodeArgs xs) in
         let le : depth e ≤ d = omega arith in
         let lx : depthAll xs ≤ d = omega arith in
-        arg-node (eval d) low ends u e xs (λ δ′ to r y w′. eval-means e δ′ d to r y le w′)
-        (λ g′ κs′ i′ index′ places′ to r k′ y due′ l′ st′ w′. args-mean xs d lx low ends u g′ κs′ i′ index′ places′ to r k′ y due′ l′ st′ w′)
-        g κs i index places at rest k m due l st w
+        arg-node (eval d) low ends u e xs (λ δ′ to r y w′. eval-means e δ′ d to r y le (omega (arith, near, both)) w′)
+        (λ g′ κs′ i′ index′ places′ to r k′ y due′ l′ near′ st′ w′. args-mean xs d lx low ends u g′ κs′ i′ index′ places′ to r k′ y due′ l′ near′ st′ w′)
+        g κs i index places at rest k m due l near st w

@@ -26,7 +26,7 @@ use Rattle.semantics.specs.Visits.{Table, lookup, heldAt, ifUndecided, stored, 
 use Rattle.semantics.proofs.Cells.{code-not-zero}
 use Rattle.semantics.proofs.Numbering.{Place, number-values, values-in}
 use Rattle.semantics.proofs.Visits.{stored-kind}
-use Rattle.syntax.specs.Limits.{mostBytes, mostDepth}
+use Rattle.syntax.specs.Limits.{mostBody, mostBytes, mostDepth}
 use Rattle.rule.specs.Form.{encodeExpr, depth}
 use Rattle.rule.proofs.Expressions.{place-below}
 use Rattle.rule.proofs.FunctionBytes.{expr-bytes}
@@ -51,6 +51,7 @@ pub record Runs (P : Program) (t : Traces) (n : Lengths) (bytes : List ℕ) (S :
   pub bodies : (g : ℕ) (f : Function) → getElem? P g ≡ some f
       → (rest : List ℕ) × (drop (getD starts g 0) bytes ≡ encodeExpr (f .body) ++ rest)
   pub deep : (g : ℕ) (f : Function) → getElem? P g ≡ some f → depth (f .body) ≤ mostDepth
+  pub fits : (g : ℕ) (f : Function) → getElem? P g ≡ some f → length (encodeExpr (f .body)) ≤ mostBody
 
 -- ---- Functions in their order
 
@@ -104,7 +105,7 @@ module _ (P : Program) (t : Traces) (n : Lengths) (bytes : List ℕ) (S : Setup)
         rw (mod-eq-of-lt inside)
         (eval-means P t n bytes (S .words) (S .traces) (r .sets) T (f .params) (valuesAt t (f .params) i) (values-in t (f .params) i h)
         (r .sets .params g f e) (envAt (S .functions) n g i) (r .envs g f i e h) (f .body) (only (f .result)) mostDepth start (here .0)
-        (r .kinds g f e) (r .deep g f e) (here .1))
+        (r .kinds g f e) (r .deep g f e) (r .fits g f e) (here .1))
 
     pub stored-means : storedAt S n g (body g) T i ≡ workingContent (stored P t T (firstCell t P g + i))
     unfolding storedAt stored heldAt

@@ -42,4 +42,5 @@ module _ {bytes : List ℕ} {s : Sort} {P : Program} (a : Accepted bytes s P) wh
             (env-means (u .lengths) (u .samples) (f .params) (f .result) (a .fits g f e .params) i h);
         bodies = starts-at;
         deep = λ g f e. a .fits g f e .deep;
+        fits = λ g f e. a .fits g f e .body;
       }

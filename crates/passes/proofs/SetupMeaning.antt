@@ -22,7 +22,7 @@ use Rattle.semantics.specs.declared.Sort.{Sort}
 use Rattle.semantics.specs.Language.{Kind, Function, Program, Traces}
 use Rattle.semantics.specs.Numbering.{cells, mostCells}
 use Rattle.semantics.specs.Cells.{falseCode, trueCode}
-use Rattle.syntax.specs.Limits.{mostParams, mostBytes}
+use Rattle.syntax.specs.Limits.{mostParams, mostBody}
 use Rattle.syntax.specs.Kinds.{kindNumber, kindIn}
 use Rattle.rule.specs.Form.{padded, Accepted}
 use Rattle.rule.specs.Outline.{outlineOf}
@@ -170,7 +170,7 @@ module _ {bytes : List ℕ} {s : Sort} {P : Program} (a : Accepted bytes s P) (r
         array = F;
         results = λ g f e. result-is g f e;
         nodes = λ at h. record {
-          ends = endsDown bytes (outlineOf s P .params) (length bytes - (at + 1)) (at + 1) (replicate mostBytes 0);
+          ends = endsDown bytes (outlineOf s P .params) (length bytes - (at + 1)) (at + 1) (replicate mostBody 0);
           right = ends-mean a (at + 1) (omega arith);
           later = after bytes (outlineOf s P .params) F (length P) n (replicate mostWords 0) zeros (a .short) (a .few) at;
           kept = after-kept bytes (outlineOf s P .params) F (length P) n (replicate mostWords 0) zeros (a .short) (a .few) at h;
