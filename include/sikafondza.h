@@ -5,7 +5,7 @@
  * writes nothing but the memory that it is lent, and keeps no pointer to it. A pointer to no elements may be null. What
  * is lent for reading must not change during the call, and what is lent for writing must overlap nothing else that is
  * lent to the same call. The functions keep no state of their own, so calls on different memory may run at the same
- * time. A call takes at most about 55 KB of stack (measured on x86-64).
+ * time. A call takes at most about 50 KB of stack (measured on x86-64).
  *
  * An array for a state or an answer has its places named by an enum (SIK_RING_.., SIK_EVALUATED_.., SIK_WRITTEN_..,
  * SIK_PARTS_.., SIK_CHECKED_..), which ends in its number of places, .._SIZE.

@@ -5,15 +5,14 @@
 use Prim.Native.Nat.{ℕ, zero, suc, _+_, _-_, _<_, _≤_}
 use native.Mathlib.Nat.{zero-add, eq-or-lt-of-le}
 use native.Mathlib.Omega.{arith}
-use mathlib.Core.Path.{_≡_, refl, sym, ap, _∙_}
+use mathlib.Core.Path.{_≡_, refl, _∙_}
 use mathlib.Core.Logic.{⊎-elim}
 use mathlib.Core.List.{List}
-use lib.ListN.{length, getD, set, length-set}
+use lib.ListN.{length, getD, length-set}
 use lib.Seq.{getD-set-same, getD-set-other}
-use Rattle.syntax.specs.Bytes.{nodeOf}
 use Rattle.codes.specs.declared.Lengths.{Lengths}
 use Rattle.decoding.specs.Words.{functionsFrom}
-use Rattle.decoding.specs.Decoding.{endsDown, decodedBy, wordBy, wordsDown, entryOf, entriesUpto}
+use Rattle.decoding.specs.Decoding.{endsDown, wordBy, wordsDown, entryOf, entriesUpto}
 
 module _ (code params functions ends : List ℕ) where
   pub words-length : (k at : ℕ) (words : List ℕ) → length (wordsDown code params functions ends k at words) ≡ length words

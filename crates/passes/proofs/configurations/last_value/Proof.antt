@@ -1,5 +1,4 @@
 -- `last_value` meets its contract.
-use mathlib.Core.Path.{sym}
 use native.Mathlib.Omega.{arith}
 use borrow.Author.Needs.{needs}
 use Rattle.codes.proofs.Bounds.{lowest-small, radix-small, radix-pos}
