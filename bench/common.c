@@ -24,8 +24,10 @@ static unsigned sixteen(const uint8_t *at) { return at[0] | at[1] << 8; }
 
 static int allows(unsigned demand, unsigned kind) { return demand == EITHER ? kind != BOOL : kind == demand; }
 
-/* The place after the expression at a place of a body, or minus the number of the refusal. */
-static int expression(const struct rule *r, const struct function *own, unsigned demand, unsigned depth, unsigned at)
+/* The place after the expression at a place of a body, or minus the number of the refusal, which is `fault` where the
+ * expression is of another kind than demanded. */
+static int expression(const struct rule *r, const struct function *own, unsigned demand, int fault, unsigned depth,
+                      unsigned at)
 {
     const struct function *f;
     unsigned byte;
@@ -37,26 +39,26 @@ static int expression(const struct rule *r, const struct function *own, unsigned
     byte = r->code[at];
     switch (byte) {
     case 0x00: case 0x01:
-        return demand == BOOL ? next : -SIK_REFUSED_WRONG_KIND;
+        return demand == BOOL ? next : -fault;
     case 0x02:
-        return allows(demand, RAM_LIST) ? next : -SIK_REFUSED_WRONG_KIND;
+        return allows(demand, RAM_LIST) ? next : -fault;
     case 0x03:
         if (r->contacts == 1)
             return -SIK_REFUSED_UNKNOWN_BYTE;
-        return allows(demand, GUARD_LIST) ? next : -SIK_REFUSED_WRONG_KIND;
+        return allows(demand, GUARD_LIST) ? next : -fault;
     case 0x10: case 0x11: case 0x12: case 0x13:
         if (byte - 0x10 >= own->params)
             return -SIK_REFUSED_UNKNOWN_BYTE;
-        return allows(demand, own->kind[byte - 0x10]) ? next : -SIK_REFUSED_WRONG_KIND;
+        return allows(demand, own->kind[byte - 0x10]) ? next : -fault;
     case 0x20: case 0x22:
-        return demand == BOOL ? expression(r, own, EITHER, depth - 1, next) : -SIK_REFUSED_WRONG_KIND;
+        return demand == BOOL ? expression(r, own, EITHER, SIK_REFUSED_OPERAND_KIND, depth - 1, next) : -fault;
     case 0x21:
-        return demand == BOOL ? -SIK_REFUSED_WRONG_KIND : expression(r, own, demand, depth - 1, next);
+        return demand == BOOL ? -fault : expression(r, own, demand, SIK_REFUSED_OPERAND_KIND, depth - 1, next);
     case 0x23:
-        next = expression(r, own, BOOL, depth - 1, next);
+        next = expression(r, own, BOOL, SIK_REFUSED_OPERAND_KIND, depth - 1, next);
         if (next > 0)
-            next = expression(r, own, demand, depth - 1, next);
-        return next > 0 ? expression(r, own, demand, depth - 1, next) : next;
+            next = expression(r, own, demand, fault, depth - 1, next);
+        return next > 0 ? expression(r, own, demand, fault, depth - 1, next) : next;
     case 0x24:
         return -SIK_REFUSED_LIST_CONSTRUCTOR;
     default:
@@ -64,9 +66,9 @@ static int expression(const struct rule *r, const struct function *own, unsigned
             return -SIK_REFUSED_UNKNOWN_BYTE;
         f = &r->function[byte - 0x80];
         if (!allows(demand, f->kind[RESULT]))
-            return -SIK_REFUSED_WRONG_KIND;
+            return -fault;
         for (unsigned i = 0; i < f->params && next > 0; i++)
-            next = expression(r, own, f->kind[i], depth - 1, next);
+            next = expression(r, own, f->kind[i], SIK_REFUSED_ARGUMENT_KIND, depth - 1, next);
         return next;
     }
 }
@@ -119,7 +121,7 @@ static uint32_t check(struct rule *r, unsigned contacts, const uint8_t *program,
         return SIK_REFUSED_MAIN_KIND;
     for (unsigned g = 0; g < r->functions; g++) {
         const struct function *f = &r->function[g];
-        int end = expression(r, f, f->kind[RESULT], MOST_DEPTH, f->start);
+        int end = expression(r, f, f->kind[RESULT], SIK_REFUSED_WRONG_KIND, MOST_DEPTH, f->start);
         if (end < 0)
             return -end;
         if ((unsigned)end != f->end)

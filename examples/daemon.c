@@ -39,6 +39,9 @@ static const struct { const char *name, *hex; } RULES[] = {
     {"not every sample is 1", "02 01 01 05 00 23 81 10 00 01 01 01 0B 00 23 22 10 01 23 20 10 81 21 10 00"},
     {"every sample is 1, but tl forgotten", "01 01 01 0A 00 23 22 10 01 23 20 10 80 10 00"},
     {"a list with a sample in front", "01 01 01 04 00 22 24 01 10"},
+    {"the samples after the oldest", "01 01 01 02 00 21 10"},
+    {"every sample is 1, but hd forgotten", "01 01 01 0A 00 23 22 10 01 23 10 80 21 10 00"},
+    {"every sample is 1, but hd for tl", "01 01 01 0B 00 23 22 10 01 23 20 10 80 20 10 00"},
     /* Over two contacts; main has the ram's list as parameter 0 and the guard's as parameter 1:
      *   81                one function, and 80 more for two contacts
      *   02 03 02          main's header: two parameters; bits 0 and 1: both are lists; bit 1: the second is the guard's
@@ -72,14 +75,16 @@ static const char *const REFUSALS[] = {
     [SIK_REFUSED_TOO_DEEP] = "an expression is nested too deep",
     [SIK_REFUSED_LIST_CONSTRUCTOR] = "a rule cannot construct lists",
     [SIK_REFUSED_UNKNOWN_BYTE] = "an unknown byte, or an absent parameter or function",
-    [SIK_REFUSED_WRONG_KIND] = "a Bool where a list is due, a list for a Bool, or a list of the other contact",
+    [SIK_REFUSED_WRONG_KIND] = "what a body or a branch of it gives has another kind than the function's result",
     [SIK_REFUSED_BYTES_AFTER_EXPRESSION] = "bytes after an expression",
     [SIK_REFUSED_RING_LENGTH] = "the ring has no slots or too many",
     [SIK_REFUSED_RING_STATE] = "the state does not fit the ring",
     [SIK_REFUSED_TRACE_LENGTH] = "too many samples, or a trace of another length",
     [SIK_REFUSED_TABLE_SHORT] = "the table has too few cells for the rule",
     [SIK_REFUSED_OUTPUT_SHORT] = "the output is too short",
-    [SIK_REFUSED_PADDING_SET] = "a bit above the last sample is set"};
+    [SIK_REFUSED_PADDING_SET] = "a bit above the last sample is set",
+    [SIK_REFUSED_OPERAND_KIND] = "a condition, or what hd, tl or null is applied to, has the wrong kind",
+    [SIK_REFUSED_ARGUMENT_KIND] = "an argument of a call has another kind than the function's parameter"};
 
 /* A contact: its ring with the state, and the trace that is taken from the ring. */
 struct contact {

@@ -18,9 +18,9 @@
 #include <stddef.h>
 #include <stdint.h>
 
-/* The version of the library, as numbers and as a text such as "3.0.0". */
+/* The version of the library, as numbers and as a text such as "3.1.0". */
 #define SIK_VERSION_MAJOR 3
-#define SIK_VERSION_MINOR 0
+#define SIK_VERSION_MINOR 1
 #define SIK_VERSION_PATCH 0
 #define SIK_VERSION \
     SIK_VERSION_TEXT(SIK_VERSION_MAJOR) "." SIK_VERSION_TEXT(SIK_VERSION_MINOR) "." SIK_VERSION_TEXT(SIK_VERSION_PATCH)
@@ -41,11 +41,15 @@ enum {
 };
 
 /* Refusals. The number answered is that of the first that applies, among those that the function can meet: in the order
- * of this list, but 23 directly after 3 of a record, and directly after 20 of a lent trace. The list of refusals above each
- * function has its order. Of a program with several faults, in 7 to 9 the first function at fault decides; in 12 to 17 the
- * first function, and in it the first byte, whatever the numbers of the later ones. So the program
- * 02 01 01 01 00 10 00 00 01 00 24 is refused with 16, for the list in the body of function 0, and not with 14, for the
- * 0x24 in that of function 1.
+ * of this list, but 23 directly after 3 of a record, and directly after 20 of a lent trace, and 25 and 26 in the place of 16.
+ * The list of refusals above each function has its order. Of a program with several faults, in 7 to 9 the first function at
+ * fault decides; in 12 to 17, 25 and 26 the first function, and in it the first byte, whatever the numbers of the later ones.
+ * So the program 02 01 01 01 00 10 00 00 01 00 24 is refused with 16, for the list in the body of function 0, and not with
+ * 14, for the 0x24 in that of function 1.
+ *
+ * 16, 25 and 26 say that a node is of another kind than its place demands (a Bool, a list of the ram, a list of the guard;
+ * hd and null take a list of either), and where to look. An if passes what is around it on to its branches: of the places
+ * that are an operand of hd, tl or null, a condition or an argument, the nearest around the node decides.
  */
 enum {
     SIK_REFUSED_TRAILER_MISSING = 1,         /* fewer than eight bytes remain for a trailer, or fewer than ten where the
@@ -73,8 +77,7 @@ enum {
     SIK_REFUSED_LIST_CONSTRUCTOR = 14,       /* a byte is 0x24 */
     SIK_REFUSED_UNKNOWN_BYTE = 15,           /* a byte is not in the table (0x03 is in it over two contacts only), or names an
                                                 absent parameter or function */
-    SIK_REFUSED_WRONG_KIND = 16,             /* a node's kind is not the one its place demands; a list of the other contact
-                                                is of another kind, but hd and null take either */
+    SIK_REFUSED_WRONG_KIND = 16,             /* what a body gives, or a branch of it, is not of the function's result kind */
     SIK_REFUSED_BYTES_AFTER_EXPRESSION = 17, /* bytes remain in a body after its expression */
     SIK_REFUSED_RING_LENGTH = 18,            /* the ring slice is empty or longer than 4,095 */
     SIK_REFUSED_RING_STATE = 19,             /* the ring's next place is not below its length, or its count is above it */
@@ -82,8 +85,10 @@ enum {
                                                 traces either */
     SIK_REFUSED_TABLE_SHORT = 21,            /* the cells needed exceed the lent table or 16,777,216 */
     SIK_REFUSED_OUTPUT_SHORT = 22,           /* the output is shorter than what is to be written */
-    SIK_REFUSED_PADDING_SET = 23             /* a bit above the last sample is set, in the last byte of a trace, of two
+    SIK_REFUSED_PADDING_SET = 23,            /* a bit above the last sample is set, in the last byte of a trace, of two
                                                 traces of either; where n is a multiple of 8 there is none */
+    SIK_REFUSED_OPERAND_KIND = 25,           /* a condition, or what hd, tl or null is applied to, has the wrong kind */
+    SIK_REFUSED_ARGUMENT_KIND = 26           /* an argument of a call has another kind than the function's parameter */
 };
 
 /* The state of a ring; both numbers are 0 for a new ring. */
@@ -115,7 +120,7 @@ uint32_t sik_ring_trace(const uint8_t *slots, size_t slots_len, const uint64_t s
 /* Checks a rule program of either sort: over one contact, or over two, such as the ram and the guard of a press. Its first
  * byte tells the sort. The functions below take the sort that the traces or the record's format are for, and refuse the
  * other by 6. Changes nothing.
- * Refusals: 5 to 17.
+ * Refusals: 5 to 17 (25 and 26 with 16).
  */
 uint32_t sik_check_program(const uint8_t *program, size_t program_len);
 
@@ -135,7 +140,7 @@ enum {
  *                  0 undecided, 1 False, 2 True, 3 head of empty, 4 tail of empty, 5 + k a suffix of length k; cells
  *                  beyond those needed keep their content
  *   answer         becomes the verdict and the pass count
- * Refusals: 5 to 17, 20, 23, 21.
+ * Refusals: 5 to 17 (25 and 26 with 16), 20, 23, 21.
  */
 uint32_t sik_evaluate(const uint8_t *program, size_t program_len, const uint8_t *trace, size_t trace_len, uint64_t n,
                       uint16_t *table, size_t table_len, uint64_t answer[SIK_EVALUATED_SIZE]);
@@ -145,7 +150,7 @@ uint32_t sik_evaluate(const uint8_t *program, size_t program_len, const uint8_t 
  *   ram, n, guard, m   as trace and n for sik_evaluate, for each contact by itself
  *   table              as for sik_evaluate; a list of the ram has n + 1 values, one of the guard m + 1
  *   answer             becomes the verdict and the pass count
- * Refusals: 5 to 17, 20, 23, 21; 20 of either trace goes before 23 of either.
+ * Refusals: 5 to 17 (25 and 26 with 16), 20, 23, 21; 20 of either trace goes before 23 of either.
  */
 uint32_t sik_evaluate_two(const uint8_t *program, size_t program_len, const uint8_t *ram, size_t ram_len, uint64_t n,
                           const uint8_t *guard, size_t guard_len, uint64_t m, uint16_t *table, size_t table_len,
@@ -165,7 +170,7 @@ enum {
  *   program, trace, n, table   as for sik_evaluate
  *   out                        at least program_len + n / 8 rounded up + 13 bytes
  *   answer                     becomes the record's length, the verdict and the pass count
- * Refusals: 5 to 17, 20, 23, 21, 22. On 22 too the table is as it was.
+ * Refusals: 5 to 17 (25 and 26 with 16), 20, 23, 21, 22. On 22 too the table is as it was.
  */
 uint32_t sik_write_record(const uint8_t *program, size_t program_len, const uint8_t *trace, size_t trace_len, uint64_t n,
                           uint16_t *table, size_t table_len, uint8_t *out, size_t out_len,
@@ -176,7 +181,7 @@ uint32_t sik_write_record(const uint8_t *program, size_t program_len, const uint
  *   program, ram, n, guard, m, table   as for sik_evaluate_two
  *   out                                at least program_len + n / 8 rounded up + m / 8 rounded up + 15 bytes
  *   answer                             becomes the record's length, the verdict and the pass count
- * Refusals: 5 to 17, 20, 23, 21, 22. On 22 too the table is as it was.
+ * Refusals: 5 to 17 (25 and 26 with 16), 20, 23, 21, 22. On 22 too the table is as it was.
  */
 uint32_t sik_write_record_two(const uint8_t *program, size_t program_len, const uint8_t *ram, size_t ram_len, uint64_t n,
                               const uint8_t *guard, size_t guard_len, uint64_t m, uint16_t *table, size_t table_len,
@@ -206,7 +211,7 @@ enum {
  * verdict is only read, not worked out again. A record of format 1 has a site label, eight zeros if none was set; one
  * of format 2 or 3 has no label. A record of format 3 holds a rule over two contacts and both traces.
  *   parts      becomes the record's parts
- * Refusals: 1 to 3, 23, 4 to 17.
+ * Refusals: 1 to 3, 23, 4 to 17 (25 and 26 with 16).
  */
 uint32_t sik_read_record(const uint8_t *bytes, size_t bytes_len, uint64_t parts[SIK_PARTS_SIZE]);
 
@@ -223,7 +228,7 @@ enum { SIK_DIFFERS = 0, SIK_AGREES = 1 };
  *   bytes      as for sik_read_record
  *   table      as for sik_evaluate and sik_evaluate_two, left with the cells worked out, also where the record differs
  *   answer     becomes the agreement
- * Refusals: 1 to 3, 23, 4 to 17, 21.
+ * Refusals: 1 to 3, 23, 4 to 17 (25 and 26 with 16), 21.
  */
 uint32_t sik_check_record(const uint8_t *bytes, size_t bytes_len, uint16_t *table, size_t table_len,
                           uint64_t answer[SIK_CHECKED_SIZE]);

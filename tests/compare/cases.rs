@@ -1,8 +1,9 @@
 //! The kinds of cases. Each lends memory to the library and compares all it leaves with the oracle.
 
-pub mod bodies;
+mod bodies;
 mod evaluation;
 mod executable;
+mod kinds;
 mod limits;
 mod listing;
 mod papers;
@@ -17,6 +18,8 @@ use super::oracle::program::Contacts;
 use super::oracle::trace::{PerContact, Trace, Traces};
 use super::random::Random;
 use super::report::Report;
+
+pub use kinds::operations;
 
 /// What a case works with.
 pub struct Bench<'a> {
@@ -40,9 +43,9 @@ const SHOWN: usize = 256;
 pub type Kind = (&'static str, fn(&mut Bench) -> Compared);
 
 /// The kinds that together meet all of the language.
-pub const BODIES: [&str; 4] = ["pairs", "contacts", "wide", "longest"];
+pub const BODIES: [&str; 5] = ["pairs", "contacts", "wide", "longest", "kinds"];
 
-pub const KINDS: [Kind; 15] = [
+pub const KINDS: [Kind; 16] = [
     ("papers", papers::run),
     ("check", program::run),
     ("evaluate", evaluation::run),
@@ -58,7 +61,13 @@ pub const KINDS: [Kind; 15] = [
     ("wide", bodies::run_wide),
     ("longest", bodies::run_longest),
     ("passes", passes::run),
+    ("kinds", kinds::run),
 ];
+
+/// After so many rounds the kinds of BODIES tried all they have.
+pub fn rounds_for_all() -> u64 {
+    bodies::rounds_for_all().max(kinds::rounds_for_all())
+}
 
 /// With exact buffers, which are for slow runs, some kinds are run so many times as seldom.
 const SELDOM: u64 = 20;

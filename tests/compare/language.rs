@@ -1,7 +1,7 @@
 //! The language in pairs: the places where a node may stand, and the sorts of node that may stand there. Programs over
-//! two contacts have more of both than programs over one.
+//! two contacts have more of both than programs over one. And the kind faults: nodes of other kinds in such places.
 
-use super::oracle::program::{Contact, Contacts, Demand, Kind};
+use super::oracle::program::{Contact, Contacts, Demand, Fault, Kind};
 
 /// The greatest depth of a node.
 pub const DEEPEST: usize = 64;
@@ -174,6 +174,17 @@ impl Place {
         matches!(self, Place::Body(_))
     }
 
+    /// The sort of a kind fault here; a branch has that of the place of its if.
+    pub fn fault(self) -> Option<Fault> {
+        match self {
+            Place::Body(_) => Some(Fault::Body),
+            Place::Head | Place::Tail(_) | Place::Null => Some(Fault::Operand),
+            Place::Condition(_) => Some(Fault::Operand),
+            Place::Argument(..) => Some(Fault::Argument),
+            Place::Then(_) | Place::Else(_) => None,
+        }
+    }
+
     /// Whether nothing of the node whose operand stands here follows that.
     pub fn is_last(self) -> bool {
         match self {
@@ -282,6 +293,27 @@ impl Sort {
         }
     }
 
+    /// The kind of a node of this sort; a tl and an if have the one demanded.
+    fn kind(self) -> Option<Kind> {
+        match self {
+            Sort::Empty(contact) => Some(Kind::List(contact)),
+            Sort::Parameter(_, kind) | Sort::Call(_, kind) => Some(kind),
+            Sort::TailOfParameter(_) | Sort::Tail => None,
+            Sort::IfParameter | Sort::IfNullOfParameter(_) => None,
+            Sort::IfHeadOfParameter(_) | Sort::If => None,
+            _ => Some(Kind::Bool),
+        }
+    }
+
+    /// Whether a node of this sort is at fault itself where something is demanded. Of a tl in a list's place it is the
+    /// operand that may be.
+    pub fn at_fault(self, demand: Demand) -> bool {
+        match self {
+            Sort::TailOfParameter(_) => demand == BOOL,
+            _ => !self.fits(demand),
+        }
+    }
+
     /// How many nodes must stand below a node of this sort, one below the other.
     pub fn below(self) -> usize {
         match self {
@@ -376,4 +408,77 @@ pub fn triples(contacts: Contacts) -> Vec<(Place, Place, Sort)> {
         }
     }
     triples
+}
+
+/// A node of a kind that is not demanded, in a place or in the nesting of two.
+#[derive(Clone, Copy, PartialEq, Eq, Debug)]
+pub struct Nesting {
+    /// From the outer place to the node's own: a place that is no branch, a branch in it, a second place that is none,
+    /// a branch in that. Only the first is always there. An argument stands for any of its kind.
+    pub places: [Option<Place>; 4],
+    /// The kind of the node; a tl has none of its own.
+    pub kind: Option<Kind>,
+}
+
+impl Nesting {
+    pub fn places(&self) -> impl DoubleEndedIterator<Item = Place> {
+        self.places.into_iter().flatten()
+    }
+
+    /// The sorts of node that are such a fault.
+    pub fn sorts(&self, contacts: Contacts) -> Vec<Sort> {
+        let own = self.places().next_back().expect("a node has a place");
+        let demand = own.demand(contacts);
+        let fits = |sort: &Sort| sort.at_fault(demand) && sort.kind() == self.kind;
+        Sort::all(contacts).into_iter().filter(fits).collect()
+    }
+
+    pub fn name(&self) -> String {
+        let node = self.kind.map_or("tl", kind_name);
+        let places = self.places().rev().map(|place| match place {
+            Place::Argument(_, _, kind) => format!(" in an argument, a {}", kind_name(kind)),
+            place => format!(" in {}", place.name()),
+        });
+        format!("{node} at fault{}", places.collect::<String>())
+    }
+}
+
+/// The places that have a sort of fault of their own; of the arguments those of calls of one.
+fn places_of_faults(contacts: Contacts) -> Vec<Place> {
+    let mut places = Place::all(contacts);
+    places.retain(|place| place.fault().is_some());
+    places.retain(|place| !matches!(place, Place::Argument(2.., ..)));
+    places
+}
+
+/// No branch, or one of an if that something is demanded of.
+fn branches(demand: Demand) -> [Option<Place>; 3] {
+    [None, Some(Place::Then(demand)), Some(Place::Else(demand))]
+}
+
+/// Every kind that is not demanded in every place, and in every place within every other, with ifs between them and
+/// without.
+pub fn nestings(contacts: Contacts) -> Vec<Nesting> {
+    let mut paths = Vec::new();
+    for outer in places_of_faults(contacts) {
+        let demand = outer.demand(contacts);
+        let fits = |inner: &Place| {
+            !inner.is_body() && inner.demand_above().is_none_or(|above| above == demand)
+        };
+        for between in branches(demand) {
+            paths.push([Some(outer), between, None, None]);
+            for inner in places_of_faults(contacts).into_iter().filter(fits) {
+                let below = branches(inner.demand(contacts)).into_iter();
+                paths.extend(below.map(|below| [Some(outer), between, Some(inner), below]));
+            }
+        }
+    }
+    let mut nestings = Vec::new();
+    for places in paths {
+        let mut nodes: Vec<Option<Kind>> = kinds(contacts).iter().copied().map(Some).collect();
+        nodes.push(None);
+        let all = nodes.into_iter().map(|kind| Nesting { places, kind });
+        nestings.extend(all.filter(|nesting| !nesting.sorts(contacts).is_empty()));
+    }
+    nestings
 }

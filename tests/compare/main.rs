@@ -1,5 +1,5 @@
 //! Compares the library, called through its C interface, with a second implementation of document 01 and of
-//! requests 01, 02 and 05 of document 02.
+//! requests 01, 02, 05 and 06 of document 02.
 //!
 //! Random and damaged programs of both sorts (over one contact and over two), traces, tables, rings, records and
 //! archives are handed to both, and programs with the traces or in a format of the other sort. The number answered,
@@ -7,7 +7,8 @@
 //!
 //! Some programs are written on purpose (kinds `pairs`, `contacts`, `wide` and `longest`): each sort of node in each
 //! place, over one contact at each depth, wide bodies, and programs of 4,096 bytes. What they come to is walked a
-//! third time, as trees, to count what was taken: the lines `taken` and `met`.
+//! third time, as trees, to count what was taken: the lines `taken` and `met`. Others (kind `kinds`) have one node of a
+//! kind that its place does not demand, in each nesting of two places.
 //!
 //! To build and run it:
 //!
@@ -28,10 +29,11 @@
 //! - `--loud`: names each round and kind before it is run, to find one that does not return.
 //!
 //! A difference is printed with its seed, its round and the case in hexadecimal, and the exit status is 1.
-//! The status is 1 also where all kinds are run for 1,000 rounds or more and a number from 1 to 23 is not answered
-//! over one contact and over two (18 and 19, which are the ring's, at all), or a record with a label, with one of
-//! zeros, with none or with a guard trace is never read, and where the rounds are so many that all was tried (some
-//! 5,700) and something else that `met` counts was never met.
+//! The status is 1 also where all kinds are run for 1,000 rounds or more and a number from 1 to 23, 25 or 26 is not
+//! answered over one contact and over two (18 and 19, which are the ring's, at all), or a record with a label, with one
+//! of zeros, with none or with a guard trace is never read, and where the rounds are so many that all was tried (some
+//! 5,700) and something else that `met` counts was never met, or an operation never answered 16, 25 or 26 over one
+//! contact and over two.
 //!
 //! Not covered: buffers that overlap, null pointers with a length other than 0, pass counts
 //! above some thousands, more than one evaluation of each sort with 16,777,216 cells (none with `--exact`), and
@@ -53,8 +55,7 @@ mod script;
 
 use std::process::exit;
 
-use cases::bodies::rounds_for_all;
-use cases::{Bench, BODIES, KINDS};
+use cases::{operations, rounds_for_all, Bench, BODIES, KINDS};
 use met::Tally;
 use options::{Options, FULL, USAGE};
 use random::Random;
@@ -118,6 +119,8 @@ fn end(options: &Options, report: &Report) {
     let wanted = BODIES.iter().all(|kind| options.wants(kind)) && !options.exact;
     if wanted && options.rounds >= rounds_for_all() {
         tallies.extend(report.language());
+        let operations = operations(options.listing.is_some());
+        tallies.push(report.kind_faults(operations));
     }
     let missing: Vec<String> = tallies.iter().flat_map(Tally::never_met).collect();
     if !missing.is_empty() {

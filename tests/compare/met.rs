@@ -1,12 +1,13 @@
 //! What of the language the cases meet: each node that is taken on some values, as a pair of its place and
-//! its sort, with its depth and what comes of it.
+//! its sort, with its depth and what comes of it; and each node of a kind that its place does not demand.
 
 mod walk;
 
 use std::fmt;
 
 use super::language::{
-    demand_name, demands, depths, over, pairs, triples, Outcome, Place, Sort, DEEPEST,
+    demand_name, demands, depths, nestings, over, pairs, triples, Nesting, Outcome, Place, Sort,
+    DEEPEST,
 };
 use super::oracle::program::{Contacts, Demand};
 use super::oracle::trace::Samples;
@@ -32,6 +33,10 @@ pub struct Met {
     calls: Vec<u64>,
     /// Calls, by the callee.
     callees: Vec<u64>,
+    /// Nodes at fault, by the place that says the sort of fault and the sort of node.
+    faults: Vec<u64>,
+    /// Nodes at fault, by nesting.
+    nestings: Vec<u64>,
 }
 
 /// What is counted.
@@ -48,6 +53,12 @@ pub enum Counted {
     /// In any place with a demand.
     Demanded(Demand, Sort, Outcome),
     End(Place, Sort),
+    /// A node of any sort at fault in a place.
+    Fault(Place),
+    /// A node at fault in any place with a demand.
+    OtherKind(Demand, Sort),
+    /// A node at fault in the nesting of a number.
+    Nested(usize, Nesting),
 }
 
 /// Counts of things that must all be met, each with its words.
@@ -73,6 +84,8 @@ impl Met {
             ends: vec![0; pairs],
             calls: vec![0; Kinds::COUNT * Outcome::COUNT],
             callees: vec![0; FUNCTIONS],
+            faults: vec![0; pairs],
+            nestings: vec![0; nestings(contacts).len()],
         }
     }
 
@@ -116,6 +129,12 @@ impl Met {
         }
     }
 
+    /// Counts a program that is refused by a node at fault in a place, in the nesting of a number.
+    pub fn count_fault(&mut self, nesting: usize, place: Place, sort: Sort) {
+        self.nestings[nesting] += 1;
+        self.faults[number(place, sort)] += 1;
+    }
+
     /// How often something was met.
     fn times(&self, counted: Counted) -> u64 {
         match counted {
@@ -147,6 +166,17 @@ impl Met {
                 places.iter().map(times).sum()
             }
             Counted::End(place, sort) => self.ends[number(place, sort)],
+            Counted::Fault(place) => {
+                let sorts = Sort::all(self.contacts).into_iter();
+                sorts.map(|sort| self.faults[number(place, sort)]).sum()
+            }
+            Counted::OtherKind(demand, sort) => {
+                let mut places = Place::all(self.contacts);
+                places.retain(|place| place.demand(self.contacts) == demand);
+                let places = places.into_iter();
+                places.map(|place| self.faults[number(place, sort)]).sum()
+            }
+            Counted::Nested(nesting, _) => self.nestings[nesting],
         }
     }
 
@@ -186,7 +216,34 @@ impl Met {
             Contacts::One => self.over_one(),
             Contacts::Two => self.over_two(),
         });
+        tallies.extend(self.kind_faults());
         tallies
+    }
+
+    /// Every nesting has a kind fault, every place but branches has one, and every sort of node is one where something
+    /// else is demanded.
+    fn kind_faults(&self) -> Vec<Tally> {
+        let contacts = self.contacts;
+        let mut sorts = Vec::new();
+        for demand in demands(contacts) {
+            let all = Sort::all(contacts).into_iter();
+            let faults = all.filter(|sort| sort.at_fault(*demand));
+            sorts.extend(faults.map(|sort| Counted::OtherKind(*demand, sort)));
+        }
+        let nestings = nestings(contacts).into_iter().enumerate();
+        let mut places = Place::all(contacts);
+        places.retain(|place| place.fault().is_some());
+        vec![
+            self.tally(
+                "nestings of kind faults",
+                nestings.map(|(number, nesting)| Counted::Nested(number, nesting)),
+            ),
+            self.tally(
+                "places of kind faults",
+                places.into_iter().map(Counted::Fault),
+            ),
+            self.tally("sorts of kind faults by demand", sorts),
+        ]
     }
 
     /// Over one contact every pair comes at every depth and to every outcome.
@@ -229,7 +286,8 @@ impl Met {
     /// A line for each place with the counts of its sorts, one for the depths, and one for each tally.
     pub fn lines(&self) -> String {
         let mut text = String::new();
-        if self.pairs.iter().all(|count| *count == 0) {
+        let mut counts = self.pairs.iter().chain(&self.faults);
+        if counts.all(|count| *count == 0) {
             return text;
         }
         let over = over(self.contacts);
@@ -306,6 +364,16 @@ impl fmt::Display for Counted {
                 )
             }
             Counted::End(place, sort) => write!(out, "{} at the end", pair(place, sort)),
+            Counted::Fault(place) => write!(out, "a kind fault in {}", place.name()),
+            Counted::OtherKind(demand, sort) => {
+                write!(
+                    out,
+                    "{} at fault for a {}",
+                    sort.name(),
+                    demand_name(demand)
+                )
+            }
+            Counted::Nested(_, nesting) => out.write_str(&nesting.name()),
         }
     }
 }

@@ -1,4 +1,4 @@
-//! A second implementation of document 01 and of requests 01, 02 and 05 of document 02, used as the oracle.
+//! A second implementation of document 01 and of requests 01, 02, 05 and 06 of document 02, used as the oracle.
 //!
 //! Each operation works on copies of the lent memory and leaves them as the library must leave its own.
 

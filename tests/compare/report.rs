@@ -4,11 +4,12 @@ use std::collections::BTreeMap;
 
 use super::language::over;
 use super::met::{Met, Tally};
-use super::oracle::program::Contacts;
+use super::oracle::program::{Contacts, Fault};
 use super::oracle::search::Evaluation;
 
-/// The largest refusal number, and those that rings alone meet.
-const LAST_NUMBER: u32 = 23;
+/// The refusal numbers of document 01 and request 01, those of request 06, and those that rings alone meet.
+const NUMBERS: std::ops::RangeInclusive<u32> = 1..=23;
+const OF_KINDS: [u32; 2] = [25, 26];
 const OF_RINGS: [u32; 2] = [18, 19];
 
 /// The records that are told apart where one is read.
@@ -82,7 +83,7 @@ impl Report {
     /// Every refusal number, over both sorts but for those of rings.
     pub fn numbers(&self) -> Tally {
         let mut counts = Vec::new();
-        for number in 1..=LAST_NUMBER {
+        for number in NUMBERS.chain(OF_KINDS) {
             let [one, two] = Contacts::ALL.map(|it| self.times(it, number));
             match OF_RINGS.contains(&number) {
                 true => counts.push((format!("number {number}"), one)),
@@ -93,6 +94,22 @@ impl Report {
             }
         }
         Tally::new("numbers by sort", counts)
+    }
+
+    /// Every sort of kind fault over both sorts, in kinds of cases.
+    pub fn kind_faults(&self, kinds: &[&'static str]) -> Tally {
+        let mut counts = Vec::new();
+        for kind in kinds {
+            for contacts in Contacts::ALL {
+                for fault in [Fault::Body, Fault::Operand, Fault::Argument] {
+                    let numbers = self.kinds.get(&(*kind, contacts));
+                    let times = numbers.and_then(|it| it.get(&fault.number()));
+                    let words = format!("number {} in {kind}{}", fault.number(), over(contacts));
+                    counts.push((words, times.copied().unwrap_or(0)));
+                }
+            }
+        }
+        Tally::new("kind faults by operation", counts)
     }
 
     /// Every sort of record.

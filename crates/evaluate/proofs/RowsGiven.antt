@@ -10,11 +10,11 @@ use Rattle.semantics.specs.Visits.{lookup, heldAt, stored, visit, visits, store
 use Rattle.semantics.specs.Passes.{tableAfter, passesFrom, passCount, finalTable}
 use Rattle.semantics.specs.Verdicts.{mainDecision, verdictOf}
 use Rattle.syntax.specs.Bytes.{noListBelow, headerOf, nodeOf}
-use Rattle.rule.specs.Reading.{kindsFrom, rawsFrom, argsFrom, exprFrom, functionsFrom, programFor}
+use Rattle.rule.specs.Reading.{kindsFrom, rawsFrom, argsFrom, exprFrom, functionsFrom, programBy}
 use Rattle.prepare.specs.Checks.{evaluateCheck}
 use Rattle.evaluate.specs.Evaluate.{evaluation}
 use Rattle.evaluate.specs.Rows.{rows, allGive}
 
 pub rows-given : allGive 4 rows ≡ true
-unfolding bitOf bytesFor sampleAt samples binary pack packed paddingSet outcomeIn bodyOutcome lookup heldAt stored visit visits stores pass passStores tableAfter passesFrom passCount finalTable mainDecision verdictOf fromLow noListBelow headerOf kindsFrom rawsFrom nodeOf argsFrom exprFrom functionsFrom programFor evaluateCheck evaluation
+unfolding bitOf bytesFor sampleAt samples binary pack packed paddingSet outcomeIn bodyOutcome lookup heldAt stored visit visits stores pass passStores tableAfter passesFrom passCount finalTable mainDecision verdictOf fromLow noListBelow headerOf kindsFrom rawsFrom nodeOf argsFrom exprFrom functionsFrom programBy evaluateCheck evaluation
 rows-given = refl

@@ -1,4 +1,4 @@
--- 'Evaluating' of documents 01 and 02: its answer and what it leaves in the table. Its refusals (5 to 17, 20, 23, 21) are those of crate prepare.
+-- 'Evaluating' of documents 01 and 02: its answer and what it leaves in the table. Its refusals (5 to 17 with 25 and 26, 20, 23, 21) are those of crate prepare.
 use Prim.Native.Nat.{ℕ}
 use mathlib.Core.Path.{_≡_}
 use mathlib.Core.List.{List, [], _∷_}

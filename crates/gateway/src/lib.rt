@@ -77,7 +77,7 @@ fn ring_of(next: u64, count: u64) -> Ring
     }
 }
 
-// The number of the refusal that the program meets, 5 to 17, or 0.
+// The number of the refusal that the program meets, 5 to 17 with 25 and 26, or 0.
 #[no_mangle]
 pub extern "C" fn sik_check_program(program: &[u8]) -> u32
     ensures { λ r. ⌜ r ≡ checkNumber (programCheck Sorts.Both (now (program .entry))) ⌝ }
@@ -143,7 +143,7 @@ fn answer_with(evaluated: Evaluated, answer: &mut [u64; 2]) -> u32
 }
 
 // Reads the record that the bytes end in: 0, with its parts as numbers in `parts`; or the number of the
-// refusal, 1 to 3, 23 or 4 to 17, with `parts` as they were.
+// refusal, 1 to 3, 23 or 4 to 17 with 25 and 26, with `parts` as they were.
 #[no_mangle]
 pub extern "C" fn sik_read_record(bytes: &[u8], parts: &mut [u64; 14]) -> u32
     ensures number { λ r. ⌜ r ≡ readAnswer (reading (now (bytes .entry))) .number ⌝ }

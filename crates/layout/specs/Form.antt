@@ -170,7 +170,7 @@ LabelFits guard none = Unit {0}
 LabelFits none (some label) = length label ≡ labelBytes
 LabelFits (some guard) (some label) = ⊥
 
--- what 2, 3, 23 and 4 to 17 leave
+-- what 2, 3, 23 and 4 to 17 with 25 and 26 leave
 pub record Stated (c : Contents) : Type 0 where
   pub program : (P : Program) × Accepted (c .program) (formatSort (formatOf c)) P
   pub few : length (c .samples) ≤ mostSamples

@@ -1,4 +1,4 @@
--- 'What is refused' of documents 01 and 02: the refusals of evaluating, 5 to 17, 20, 23 and 21.
+-- 'What is refused' of documents 01 and 02: the refusals of evaluating, 5 to 17 with 25 and 26, 20, 23 and 21.
 use Prim.Native.Nat.{ℕ}
 use mathlib.Core.Bool.{Bool, not, _||_}
 use mathlib.Core.List.{List}
@@ -34,7 +34,7 @@ traceCheck h = lengthsCheck h then paddingCheck (paddingSet (h .ram) (h .n) || p
 abbrev pub tableCheck : ℕ → ℕ → Check
 tableCheck needed lent = refuseIf (ltb lent needed || ltb mostCells needed) TableShort
 
--- 5 to 17, 20, 23, 21, in this order; the program is what its bytes are read as, of the sort that the traces say
+-- 5 to 17 with 25 and 26, 20, 23, 21, in this order; the program is what its bytes are read as, of the sort that the traces say
 abbrev pub checkRead : Parsed Program → Handed → ℕ → Check
 checkRead (got P rest) h lent = traceCheck h then tableCheck (cells (samplesOf h) P) lent
 checkRead (refused f) h lent = check.Refused f

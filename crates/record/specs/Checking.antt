@@ -1,4 +1,4 @@
--- 'Checking a record', of documents 01 and 02: its refusals (1 to 3, 23, 4 to 17, 21), its answer, what it leaves in the table.
+-- 'Checking a record', of documents 01 and 02: its refusals (1 to 3, 23, 4 to 17 with 25 and 26, 21), its answer, what it leaves in the table.
 use Prim.Native.Nat.{ℕ}
 use mathlib.Core.Path.{_≡_}
 use mathlib.Core.Bool.{Bool, true, false, _&&_}

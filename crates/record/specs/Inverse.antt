@@ -24,7 +24,7 @@ pub record EndsIn (bytes : List ℕ) (p : Parts) : Type 0 where
   pub format : p .format ≡ formatOf (contentsAt bytes p) .number
   pub whole : bytes ≡ take (p .program .start) bytes ++ layout (contentsAt bytes p)
 
--- the bytes end in a record of a format: in the stated layout of some contents of it that 2, 3, 23 and 4 to 17 leave
+-- the bytes end in a record of a format: in the stated layout of some contents of it that 2, 3, 23 and 4 to 17 with 25 and 26 leave
 abbrev pub EndInRecord : ℕ → List ℕ → Type 0
 EndInRecord k bytes = (before : List ℕ) × (c : Contents) × Stated c × (formatOf c .number ≡ k) × (bytes ≡ before ++ layout c)
 

@@ -1,4 +1,4 @@
--- 'Reading' a record, of documents 01 and 02: from the last byte backwards; its refusals, 1 to 3, 23 and 4 to 17, and the parts it
+-- 'Reading' a record, of documents 01 and 02: from the last byte backwards; its refusals, 1 to 3, 23 and 4 to 17 with 25 and 26, and the parts it
 -- yields.
 use Prim.Native.Nat.{ℕ}
 use mathlib.Core.List.{List, _∷_, []}
@@ -19,7 +19,7 @@ use Rattle.layout.specs.Trailer.{partOf, formatHeld, trailerCheckWith, partsWit
 
 -- ---- Of a release that knows these formats
 
--- 1 to 3, 23, 4, then 5 to 17 of the program, which must be of the format's sort (6)
+-- 1 to 3, 23, 4, then 5 to 17 with 25 and 26 of the program, which must be of the format's sort (6)
 unfoldable pub readCheckWith : List Format → List ℕ → Check
 readCheckWith known bytes =
     trailerCheckWith known bytes

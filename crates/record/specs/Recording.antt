@@ -1,4 +1,4 @@
--- 'Recording', of documents 01 and 02: its refusals (5 to 17, 20, 23, 21, 22), its answer, what it leaves in the table and writes.
+-- 'Recording', of documents 01 and 02: its refusals (5 to 17 with 25 and 26, 20, 23, 21, 22), its answer, what it leaves in the table and writes.
 use Prim.Native.Nat.{ℕ}
 use mathlib.Core.Path.{_≡_}
 use mathlib.Core.List.{List, _∷_}
@@ -45,7 +45,7 @@ recordOf program h = layout (recorded program h (workedOut program h))
 abbrev pub roomCheck : List ℕ → Handed → ℕ → Check
 roomCheck program h room = refuseIf (ltb room (length (recordOf program h))) OutputShort
 
--- 5 to 17, 20, 23, 21, then 22
+-- 5 to 17 with 25 and 26, 20, 23, 21, then 22
 unfoldable pub writeCheck : List ℕ → Handed → ℕ → ℕ → Check
 writeCheck program h lent room = evaluateCheck program h lent then roomCheck program h room
 

@@ -1,28 +1,26 @@
 -- Laws of the refusals' numbers:
 --   refusal-back           the refusal with a refusal's number is that refusal
 --   check-back             and so of a check
---   past-passed            a number past the list is no refusal's
---   number-small           a refusal's number is at most as great as the list is long
+--   others-passed          a number that no refusal has stands for none
+--   number-small           no refusal has a greater number than the greatest in the list
 --   number-injective       two refusals with the same number are the same
 --   check-injective        two checks with the same number are the same; 0 is no refusal's number
 --   refused-same           two checks that refuse are the same by their refusals
 --   refused                a check that refuses has not passed
 --   no-number              a refusal has a number other than 0
 --   refused-left           a refusal leaves what was there
-use Prim.Native.Nat.{ℕ, zero, suc, _<_, _≤_}
+use Prim.Native.Nat.{ℕ, _≤_, max}
 use mathlib.Core.Path.{_≡_, refl, sym, ap, _∙_}
-use mathlib.Core.Bool.{Bool, true, false}
+use mathlib.Core.Bool.{Bool, true, false, cond}
 use mathlib.Core.List.{List, [], _∷_}
-use mathlib.Core.Option.{none}
 use native.Mathlib.Omega.{arith}
-use lib.Dec.{ltb}
-use lib.ListN.{length, getElem?}
-use borrow.Author.Tests.{ne-eqb, ltb-true, ltb-false}
+use lib.Dec.{eqb}
+use borrow.Author.Tests.{ne-eqb, eqb-true}
 use Rattle.refusal.specs.declared.Refusal.{Refusal}
 use Rattle.refusal.specs.declared.Refusal.the-variants as refusal
 use Rattle.refusal.specs.declared.Check.{Check}
 use Rattle.refusal.specs.declared.Check.the-variants.{Passed, Refused}
-use Rattle.refusal.specs.{numberOf, refusals, checkNumber, checkBy, checkOf, valuesLeft}
+use Rattle.refusal.specs.{numberOf, refusals, checkNumber, checkAmong, checkOf, valuesLeft}
 
 pub refusal-back : (f : Refusal) → checkOf (numberOf f) ≡ Refused f
 refusal-back refusal.TrailerMissing = refl
@@ -48,6 +46,8 @@ refusal-back refusal.TraceLength = refl
 refusal-back refusal.TableShort = refl
 refusal-back refusal.OutputShort = refl
 refusal-back refusal.PaddingSet = refl
+refusal-back refusal.OperandKind = refl
+refusal-back refusal.ArgumentKind = refl
 
 pub check-back : (c : Check) → checkOf (checkNumber c) ≡ c
 check-back Passed = refl
@@ -82,19 +82,33 @@ pub refused-left : (f : Refusal) (values old : List ℕ) → valuesLeft (record 
 unfolding valuesLeft
 refused-left f values old = rw (ne-eqb (numberOf f) 0 (no-number f))
 
--- past a list there is no refusal
-none-past : (l : List Refusal) (n : ℕ) → length l ≤ n → getElem? l n ≡ none
-none-past [] n h = refl
-none-past (f ∷ l) zero h = absurd (omega arith)
-none-past (f ∷ l) (suc n) h = none-past l n (omega arith)
+-- T, and a number that none of some refusals has
+abbrev pub Others : Type 0 → List Refusal → ℕ → Type 0
+Others T [] n = T
+Others T (f ∷ fs) n = Others (T × (n ≡ numberOf f → ⊥)) fs n
 
-pub past-passed : (n : ℕ) → length refusals < n → checkOf n ≡ Passed
-past-passed zero h = refl
-past-passed (suc n) h = ap checkBy (none-past refusals n (omega arith))
+among-passed : (T : Type 0) (fs : List Refusal) (n : ℕ) → Others T fs n → T × (checkAmong fs n ≡ Passed)
+among-passed T [] n h = (h, refl)
+among-passed T (f ∷ fs) n h =
+    let w = among-passed (T × (n ≡ numberOf f → ⊥)) fs n h in
+    (w .0 .0, rw (ne-eqb n (numberOf f) (w .0 .1)) (w .1))
 
-pub number-small : (f : Refusal) → numberOf f ≤ length refusals
-number-small f = go (ltb (length refusals) (numberOf f)) refl
+pub others-passed : (n : ℕ) → Others (Unit {0}) refusals n → checkOf n ≡ Passed
+others-passed n h = among-passed (Unit {0}) refusals n h .1
+
+-- the greatest number of some refusals
+abbrev pub greatest : List Refusal → ℕ
+greatest [] = 0
+greatest (f ∷ fs) = max (numberOf f) (greatest fs)
+
+among-small : (fs : List Refusal) (n : ℕ) (f : Refusal) → checkAmong fs n ≡ Refused f → n ≤ greatest fs
+among-small [] n f e = absurd (refused (sym e))
+among-small (g ∷ fs) n f e = go (eqb n (numberOf g)) refl e (λ q. among-small fs n f q)
   where
-    go : (b : Bool) → ltb (length refusals) (numberOf f) ≡ b → numberOf f ≤ length refusals
-    go true e = absurd (refused (sym (refusal-back f) ∙ past-passed (numberOf f) (ltb-true _ _ e)))
-    go false e = ltb-false _ _ e
+    go : (b : Bool) → eqb n (numberOf g) ≡ b → cond b (Refused g) (checkAmong fs n) ≡ Refused f → (checkAmong fs n ≡ Refused f → n ≤ greatest fs)
+        → n ≤ max (numberOf g) (greatest fs)
+    go true same e more = omega (arith, eqb-true n (numberOf g) same)
+    go false other e more = omega (arith, more e)
+
+pub number-small : (f : Refusal) → numberOf f ≤ greatest refusals
+number-small f = among-small refusals (numberOf f) f (refusal-back f)

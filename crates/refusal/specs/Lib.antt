@@ -1,11 +1,9 @@
--- 'What is refused' of document 01, with the number that document 02 adds: the number of each refusal, the refusal with a
+-- 'What is refused' of document 01, with the numbers that document 02 adds: the number of each refusal, the refusal with a
 -- number, and which of several applies.
-use Prim.Native.Nat.{ℕ, zero, suc}
+use Prim.Native.Nat.{ℕ}
 use mathlib.Core.Bool.{Bool, true, false, cond}
 use mathlib.Core.List.{List, [], _∷_}
-use mathlib.Core.Option.{Option, none, some}
 use lib.Dec.{eqb}
-use lib.ListN.{getElem?}
 use Rattle.refusal.specs.declared.Refusal.{Refusal}
 use declared.Refusal.the-variants.*
 use Rattle.refusal.specs.declared.Check.{Check}
@@ -43,7 +41,7 @@ numberOf TooDeep = 13
 numberOf ListConstructor = 14
 -- the byte is not in the table, or names an absent parameter or function
 numberOf UnknownByte = 15
--- the node's kind is not the one its place demands
+-- the node's kind is not the one its place demands, in a body's or branch's result where a whole body demands it
 numberOf WrongKind = 16
 -- bytes remain in the body after its expression
 numberOf BytesAfterExpression = 17
@@ -59,6 +57,10 @@ numberOf TableShort = 21
 numberOf OutputShort = 22
 -- a bit above the last sample is set
 numberOf PaddingSet = 23
+-- the node's kind is not the one its place demands, in an operand of hd, tl, null or a condition
+numberOf OperandKind = 25
+-- the same, in an argument
+numberOf ArgumentKind = 26
 
 -- the refusals in the order of the numbers
 abbrev pub refusals : List Refusal
@@ -66,29 +68,30 @@ refusals =
     TrailerMissing ∷ MarkOrFormat ∷ TrailerFields ∷ VerdictOrPasses ∷ ProgramLength ∷ FunctionCount ∷
     HeaderCut ∷ ParameterKinds ∷ BodyLength ∷ BytesAfterFunctions ∷ MainKind ∷ BodyEnds ∷
     TooDeep ∷ ListConstructor ∷ UnknownByte ∷ WrongKind ∷ BytesAfterExpression ∷ RingLength ∷
-    RingState ∷ TraceLength ∷ TableShort ∷ OutputShort ∷ PaddingSet ∷ []
+    RingState ∷ TraceLength ∷ TableShort ∷ OutputShort ∷ PaddingSet ∷ OperandKind ∷
+    ArgumentKind ∷ []
 
 -- the number of a check's answer; 0 stands for no refusal
 abbrev pub checkNumber : Check → ℕ
 checkNumber Passed = 0
 checkNumber (Refused f) = numberOf f
 
--- a refusal that may be there
-abbrev pub checkBy : Option Refusal → Check
-checkBy none = Passed
-checkBy (some f) = Refused f
+-- the one of some refusals that has a number
+abbrev pub checkAmong : List Refusal → ℕ → Check
+checkAmong [] n = Passed
+checkAmong (f ∷ fs) n = cond (eqb n (numberOf f)) (Refused f) (checkAmong fs n)
 
--- the check with a number; 0 and the numbers past the list stand for no refusal
+-- the check with a number; what is no refusal's number, as 0, stands for no refusal
 abbrev pub checkOf : ℕ → Check
-checkOf zero = Passed
-checkOf (suc n) = checkBy (getElem? refusals n)
+checkOf n = checkAmong refusals n
 
 -- one entry of the list: the refusal, where what it names is the case
 abbrev pub refuseIf : Bool → Refusal → Check
 refuseIf true f = Refused f
 refuseIf false f = Passed
 
--- 'in rising order', 23 'directly after 3 for records, after 20 for lent traces': the first check that refuses decides
+-- 'in rising order', 23 'directly after 3 for records, after 20 for lent traces', 25 and 26 'in the place of 16': the first
+-- check that refuses decides
 infixr 20 _then_
 abbrev pub _then_ : Check → Check → Check
 _then_ Passed next = next

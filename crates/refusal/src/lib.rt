@@ -1,4 +1,4 @@
-// The refusals of 'What is refused' in document 01, and the one that document 02 adds. Each case has the number that
+// The refusals of 'What is refused' in document 01, and those that document 02 adds. Each case has the number that
 // the document gives it, and no two cases have the same.
 ghost use mathlib.Core.Path.{_≡_};
 ghost use Rattle.refusal.specs.{numberOf, checkNumber, checkOf};
@@ -28,6 +28,8 @@ pub enum Refusal {
     TableShort,
     OutputShort,
     PaddingSet,
+    OperandKind,
+    ArgumentKind,
 }
 
 // The number of a refusal in the list.
@@ -58,6 +60,8 @@ pub fn number(refusal: Refusal) -> u32
         Refusal::TableShort => 21,
         Refusal::OutputShort => 22,
         Refusal::PaddingSet => 23,
+        Refusal::OperandKind => 25,
+        Refusal::ArgumentKind => 26,
     }
 }
 
@@ -105,6 +109,8 @@ pub fn numbered(number: usize) -> Check
         21 => Check::Refused(Refusal::TableShort),
         22 => Check::Refused(Refusal::OutputShort),
         23 => Check::Refused(Refusal::PaddingSet),
+        25 => Check::Refused(Refusal::OperandKind),
+        26 => Check::Refused(Refusal::ArgumentKind),
         _ => Check::Passed,
     }
 }

@@ -23,8 +23,8 @@ use Rattle.semantics.specs.Language.{Kind, truth, list, Expr, Function, Program
 use Rattle.syntax.specs.declared.Header.{Header}
 use Rattle.syntax.specs.Limits.{mostDepth, mostBytes}
 use Rattle.syntax.specs.Kinds.{ramKind, guardKind, kindNumber}
-use Rattle.rule.specs.Reading.{Parsed, got, refused, onward, kindAt, kindsFrom, paramKinds, resultKind, Raw, exprFrom, wholeBody, functionFrom, functionsFrom, sameKinds, checkFrom}
-use Rattle.rule.specs.Walk.{kindOf, Frame, firstStop, checkAt, bodyEnd, bodyAt, bodiesAt, mainBits}
+use Rattle.rule.specs.Reading.{Parsed, got, refused, onward, kindAt, kindsFrom, paramKinds, resultKind, Raw, exprFrom, wholeBody, functionFrom, functionsFrom, sameKinds, checkFrom, apart, bodyPlace}
+use Rattle.rule.specs.Walk.{resultPart, kindOf, Frame, firstStop, checkAt, bodyEnd, bodyAt, bodiesAt, mainBits}
 use Rattle.rule.proofs.Walking.{stop-above, stop-back}
 use Rattle.rule.proofs.WalkMeaning.{Framed, Step, went, stopped, kind-number, ownOf, expr-step}
 
@@ -51,13 +51,13 @@ end-means body h short w p (went e to l) = rw (lt-ltb to firstStop (omega arith)
     go (b ∷ bs) n = rw (ne-eqb to (length body) (λ q. omega arith))
 end-means body h short w p (stopped f) = rw (le-ltb _ _ (stop-above f)) (stop-back f)
 
-pub body-means : (s : Sort) (H : List Header) (F : Frame) (x : Raw) → Fitting s H F x → bodyAt F ≡ checkFrom (functionFrom s H x)
+pub body-means : (s : Sort) (H : List Header) (F : Frame) (x : Raw) → Fitting s H F x → bodyAt F ≡ checkFrom (functionFrom apart s H x)
 unfolding bodyAt
 body-means s H F x fit =
     let k = F .ownKinds in
     let g = F .ownGuard in
-    let step : Step (F .body) (checkAt F mostDepth (kindOf k g 4) 0) (exprFrom s H (ownOf F) mostDepth (only (kindAt k g 4)) (F .body)) =
-    rw (kind-number k g 4) at (expr-step s H F (fit .framed) (fit .short) mostDepth (only (kindAt k g 4)) 0 (omega arith)) in
+    let step : Step (F .body) (checkAt F mostDepth (resultPart + kindOf k g 4) 0) (exprFrom apart s H (ownOf F) mostDepth (bodyPlace (kindAt k g 4)) (F .body)) =
+    rw (kind-number k g 4) at (expr-step s H F (fit .framed) (fit .short) mostDepth (bodyPlace (kindAt k g 4)) 0 (omega arith)) in
     rw (← fit .body, ← fit .params, ← fit .kinds, ← fit .guard) (end-means (F .body) _ (fit .short) _ _ step)
 
 -- ---- Functions
@@ -70,14 +70,14 @@ then-means (refused f) q k = refl
 
 module _ (frames : ℕ → Frame) (s : Sort) (H : List Header) where
   pub bodies-mean : (xs : List Raw) (i : ℕ) → ((j : ℕ) (x : Raw) → getElem? xs j ≡ some x → Fitting s H (frames (i + j)) x)
-      → bodiesAt frames (length xs) i ≡ checkFrom (functionsFrom s H xs)
+      → bodiesAt frames (length xs) i ≡ checkFrom (functionsFrom apart s H xs)
   unfolding bodiesAt functionsFrom
   bodies-mean [] i fit = refl
   bodies-mean (x ∷ xs) i fit =
       let here : Fitting s H (frames i) x = rw (add-zero i) at (fit 0 x refl) in
-      let rest : bodiesAt frames (length xs) (i + 1) ≡ checkFrom (functionsFrom s H xs) =
+      let rest : bodiesAt frames (length xs) (i + 1) ≡ checkFrom (functionsFrom apart s H xs) =
       bodies-mean xs (i + 1) (λ j y e. rw (moved j) (fit (suc j) y e)) in
-      rw (body-means s H (frames i) x here, rest) (then-means (functionFrom s H x) (functionsFrom s H xs) (λ (f : Function) (fs : Program). f ∷ fs))
+      rw (body-means s H (frames i) x here, rest) (then-means (functionFrom apart s H x) (functionsFrom apart s H xs) (λ (f : Function) (fs : Program). f ∷ fs))
     where
       moved : (j : ℕ) → i + 1 + j ≡ i + suc j
       moved j = omega arith

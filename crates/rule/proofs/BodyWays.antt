@@ -15,9 +15,9 @@ use Rattle.refusal.specs.declared.Check.{Check}
 use Rattle.refusal.specs.declared.Check.the-variants as check
 use Rattle.refusal.specs.{checkOf, _then_}
 use Rattle.syntax.specs.Limits.{mostDepth}
-use Rattle.rule.specs.Walk.{kindOf, Frame, firstStop, checkAt, bodyEnd, bodyAt, bodiesAt}
+use Rattle.rule.specs.Walk.{resultPart, kindOf, Frame, firstStop, checkAt, bodyEnd, bodyAt, bodiesAt}
 
-module _ (F : Frame) {result : ℕ} (k : result ≡ kindOf (F .ownKinds) (F .ownGuard) 4) {w : ℕ} (e : w ≡ checkAt F mostDepth result 0) where
+module _ (F : Frame) {result : ℕ} (k : result ≡ kindOf (F .ownKinds) (F .ownGuard) 4) {w : ℕ} (e : w ≡ checkAt F mostDepth (resultPart + result) 0) where
   pub body-passed : w < firstStop → w ≡ length (F .body) → check.Passed ≡ bodyAt F
   unfolding bodyAt bodyEnd
   body-passed h q = rw (← k, ← e, lt-ltb _ _ h, eq-eqb _ _ q)

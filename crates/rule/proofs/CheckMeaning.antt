@@ -10,7 +10,7 @@ use Rattle.semantics.specs.declared.Sort.the-variants.{One, Two}
 use Rattle.semantics.specs.Language.{Program}
 use Rattle.syntax.specs.Limits.{mostFunctions, mostBytes}
 use Rattle.rule.specs.Form.{padded}
-use Rattle.rule.specs.Reading.{got, Raw, rawsFrom, functionsFrom, headers, mainFirst, checkFrom}
+use Rattle.rule.specs.Reading.{got, Raw, rawsFrom, functionsFrom, headers, mainFirst, checkFrom, apart}
 use Rattle.rule.specs.Outline.{outlineOf}
 use Rattle.rule.specs.Walk.{bodiesAt, Placed, mainBits, rawOutline}
 use Rattle.rule.proofs.Scanning.{endOf}
@@ -28,9 +28,9 @@ pub record CheckMeans (s : Sort) (bytes : List ℕ) (n : ℕ) (xs : List Raw) (r
   pub within : endOf s 1 xs ≤ length bytes
   pub after : length rest ≡ length bytes - endOf s 1 xs
   pub main : mainOutlined s xs
-  pub bodies : bodiesAt (rawFrame bytes s n xs) n 0 ≡ checkFrom (functionsFrom s (headers xs) xs)
+  pub bodies : bodiesAt (rawFrame bytes s n xs) n 0 ≡ checkFrom (functionsFrom apart s (headers xs) xs)
   pub placed : Placed (length bytes) n (rawOutline s xs .params) (rawOutline s xs .starts) (rawOutline s xs .ends)
-  pub outline : (P : Program) (r : List ℕ) → functionsFrom s (headers xs) xs ≡ got P r → rawOutline s xs ≡ outlineOf s P
+  pub outline : (P : Program) (r : List ℕ) → functionsFrom apart s (headers xs) xs ≡ got P r → rawOutline s xs ≡ outlineOf s P
 
 -- the first header, and of no functions the zeros of their outline
 main-first : (s : Sort) (xs : List Raw) → mainOutlined s xs
@@ -41,7 +41,7 @@ main-first s (x ∷ xs) =
     rw (outline-params s (x ∷ xs) 0 x refl, outline-kinds s (x ∷ xs) 0 x refl, outline-guards s (x ∷ xs) 0 x refl) (sym (main-means s (x .header)))
 
 all-bodies : (s : Sort) (bytes : List ℕ) (n : ℕ) (xs : List Raw) (rest : List ℕ) → length bytes ≤ mostBytes → RawsAre s bytes n 1 xs rest
-    → bodiesAt (rawFrame bytes s (length xs) xs) (length xs) 0 ≡ checkFrom (functionsFrom s (headers xs) xs)
+    → bodiesAt (rawFrame bytes s (length xs) xs) (length xs) 0 ≡ checkFrom (functionsFrom apart s (headers xs) xs)
 all-bodies s bytes n xs rest short are = bodies-mean _ s (headers xs) xs 0 (λ j x e. rw (zero-add j) (fitting are short j x e))
 
 pub check-means : (s : Sort) (bytes : List ℕ) (count : ℕ) (xs : List Raw) (rest : List ℕ) → count ≤ mostFunctions → 1 ≤ length bytes

@@ -23,7 +23,7 @@ use Rattle.syntax.specs.declared.Header.{Header}
 use Rattle.syntax.specs.Limits.{mostFunctions, mostParams}
 use Rattle.rule.specs.Form.{opByte, encodeExpr, encodeArgs, depth, depthAll, hasContact, ExprOfSort, ArgsOfSort}
 use Rattle.syntax.specs.Bytes.{nodeOf}
-use Rattle.rule.specs.Reading.{got, onward, paramKinds, resultKind, demanded, Reader, argsFrom, guardEmptyFrom, paramFrom, callFrom, opFrom, ifFrom, nodeFrom, exprFrom}
+use Rattle.rule.specs.Reading.{got, onward, paramKinds, resultKind, Place, conditionPlace, operandPlace, argumentPlace, apart, demanded, Reader, argsFrom, guardEmptyFrom, paramFrom, callFrom, opFrom, ifFrom, nodeFrom, exprFrom}
 use Rattle.rule.proofs.NodeBytes.{ByteOf, node-false, node-true, node-empty, node-empty-guard, node-if, node-op, node-param, node-call, node-inv}
 use Rattle.rule.proofs.Parsing.{not-got, got-inv, allowed-inv, allowed-met, Onward, by, onward-inv}
 
@@ -62,85 +62,85 @@ place-below (x ∷ l) (suc i) a e = omega (arith, place-below l i a e)
 -- ---- Written, then read
 
 -- what each node is read as
-module _ (s : Sort) (H : List Header) (Γ : List Kind) (d : ℕ) (δ : Demand) where
-  constant-read : (b : Bool) (rest : List ℕ) → T (allows δ truth) → exprFrom s H Γ (suc d) δ (encodeExpr (constant b) ++ rest) ≡ got (constant b) rest
+module _ (s : Sort) (H : List Header) (Γ : List Kind) (d : ℕ) (π : Place) where
+  constant-read : (b : Bool) (rest : List ℕ) → T (allows (π .demand) truth) → exprFrom apart s H Γ (suc d) π (encodeExpr (constant b) ++ rest) ≡ got (constant b) rest
   unfolding exprFrom encodeExpr
-  constant-read false rest m = rw node-false (allowed-met (allows δ truth) _ _ m)
-  constant-read true rest m = rw node-true (allowed-met (allows δ truth) _ _ m)
+  constant-read false rest m = rw node-false (allowed-met (allows (π .demand) truth) _ _ m)
+  constant-read true rest m = rw node-true (allowed-met (allows (π .demand) truth) _ _ m)
 
-  param-read : (i : ℕ) (κ : Kind) (rest : List ℕ) → i < mostParams → getElem? Γ i ≡ some κ → T (allows δ κ)
-      → exprFrom s H Γ (suc d) δ (encodeExpr (param i) ++ rest) ≡ got (param i) rest
+  param-read : (i : ℕ) (κ : Kind) (rest : List ℕ) → i < mostParams → getElem? Γ i ≡ some κ → T (allows (π .demand) κ)
+      → exprFrom apart s H Γ (suc d) π (encodeExpr (param i) ++ rest) ≡ got (param i) rest
   unfolding exprFrom encodeExpr
-  param-read i κ rest h e m = rw (node-param h, e) (allowed-met (allows δ κ) _ _ m)
+  param-read i κ rest h e m = rw (node-param h, e) (allowed-met (allows (π .demand) κ) _ _ m)
 
-  op-read : (p : Op) (bs : List ℕ) (e : Expr) (rest : List ℕ) → T (opAllowed p δ) → exprFrom s H Γ d (operandDemand p δ) bs ≡ got e rest
-      → exprFrom s H Γ (suc d) δ (opByte p ∷ bs) ≡ got (op p e) rest
+  op-read : (p : Op) (bs : List ℕ) (e : Expr) (rest : List ℕ) → T (opAllowed p (π .demand)) → exprFrom apart s H Γ d (operandPlace p π) bs ≡ got e rest
+      → exprFrom apart s H Γ (suc d) π (opByte p ∷ bs) ≡ got (op p e) rest
   unfolding exprFrom
-  op-read hd bs e rest m q = rw (node-op hd) (allowed-met (opAllowed hd δ) _ _ m ∙ rw q)
-  op-read tl bs e rest m q = rw (node-op tl) (allowed-met (opAllowed tl δ) _ _ m ∙ rw q)
-  op-read null bs e rest m q = rw (node-op null) (allowed-met (opAllowed null δ) _ _ m ∙ rw q)
+  op-read hd bs e rest m q = rw (node-op hd) (allowed-met (opAllowed hd (π .demand)) _ _ m ∙ rw q)
+  op-read tl bs e rest m q = rw (node-op tl) (allowed-met (opAllowed tl (π .demand)) _ _ m ∙ rw q)
+  op-read null bs e rest m q = rw (node-op null) (allowed-met (opAllowed null (π .demand)) _ _ m ∙ rw q)
 
   if-read : (bs : List ℕ) (c : Expr) (r : List ℕ) (a : Expr) (r′ : List ℕ) (b : Expr) (rest : List ℕ)
-      → exprFrom s H Γ d (only truth) bs ≡ got c r → exprFrom s H Γ d δ r ≡ got a r′ → exprFrom s H Γ d δ r′ ≡ got b rest
-      → exprFrom s H Γ (suc d) δ (0x23 ∷ bs) ≡ got (ifte c a b) rest
+      → exprFrom apart s H Γ d conditionPlace bs ≡ got c r → exprFrom apart s H Γ d π r ≡ got a r′ → exprFrom apart s H Γ d π r′ ≡ got b rest
+      → exprFrom apart s H Γ (suc d) π (0x23 ∷ bs) ≡ got (ifte c a b) rest
   unfolding exprFrom
   if-read bs c r a r′ b rest p q t = rw node-if (rw (p, q, t))
 
-  call-read : (g : ℕ) (h : Header) (bs : List ℕ) (xs : Args) (rest : List ℕ) → g < mostFunctions → getElem? H g ≡ some h → T (allows δ (resultKind h))
-      → argsFrom (λ δ′ r. exprFrom s H Γ d δ′ r) (paramKinds h) bs ≡ got xs rest → exprFrom s H Γ (suc d) δ ((0x80 + g) ∷ bs) ≡ got (call g xs) rest
+  call-read : (g : ℕ) (h : Header) (bs : List ℕ) (xs : Args) (rest : List ℕ) → g < mostFunctions → getElem? H g ≡ some h → T (allows (π .demand) (resultKind h))
+      → argsFrom (λ π′ r. exprFrom apart s H Γ d π′ r) (paramKinds h) bs ≡ got xs rest → exprFrom apart s H Γ (suc d) π ((0x80 + g) ∷ bs) ≡ got (call g xs) rest
   unfolding exprFrom
-  call-read g h bs xs rest l e m q = rw (node-call l, e) (allowed-met (allows δ (resultKind h)) _ _ m ∙ rw q)
+  call-read g h bs xs rest l e m q = rw (node-call l, e) (allowed-met (allows (π .demand) (resultKind h)) _ _ m ∙ rw q)
 
-empty-read : (s : Sort) (H : List Header) (Γ : List Kind) (d : ℕ) (δ : Demand) (c : Contact) (rest : List ℕ)
-    → T (allows δ (list c)) → T (hasContact s c) → exprFrom s H Γ (suc d) δ (encodeExpr (empty c) ++ rest) ≡ got (empty c) rest
+empty-read : (s : Sort) (H : List Header) (Γ : List Kind) (d : ℕ) (π : Place) (c : Contact) (rest : List ℕ)
+    → T (allows (π .demand) (list c)) → T (hasContact s c) → exprFrom apart s H Γ (suc d) π (encodeExpr (empty c) ++ rest) ≡ got (empty c) rest
 unfolding exprFrom encodeExpr
-empty-read s H Γ d δ Ram rest m has = rw node-empty (allowed-met (allows δ (list Ram)) _ _ m)
-empty-read One H Γ d δ Guard rest m has = absurd has
-empty-read Two H Γ d δ Guard rest m has = rw node-empty-guard (allowed-met (allows δ (list Guard)) _ _ m)
+empty-read s H Γ d π Ram rest m has = rw node-empty (allowed-met (allows (π .demand) (list Ram)) _ _ m)
+empty-read One H Γ d π Guard rest m has = absurd has
+empty-read Two H Γ d π Guard rest m has = rw node-empty-guard (allowed-met (allows (π .demand) (list Guard)) _ _ m)
 
 module _ (s : Sort) (P : Program) (H : List Header) (of-program : Heads P H) (few : length P ≤ mostFunctions) (Γ : List Kind)
     (narrow : length Γ ≤ mostParams) where
   mutual
     unfolding encodeExpr encodeArgs depth depthAll argsFrom
 
-    pub expr-read : (e : Expr) (d : ℕ) (δ : Demand) (rest : List ℕ) → Meets P Γ δ e → ExprOfSort s e → depth e ≤ d
-        → exprFrom s H Γ d δ (encodeExpr e ++ rest) ≡ got e rest
-    expr-read (constant b) zero δ rest m o h = absurd (omega arith)
-    expr-read (constant b) (suc d) δ rest m o h = constant-read s H Γ d δ b rest m
-    expr-read (empty c) zero δ rest m o h = absurd (omega arith)
-    expr-read (empty c) (suc d) δ rest m o h = empty-read s H Γ d δ c rest m o
-    expr-read (param i) zero δ rest m o h = absurd (omega arith)
-    expr-read (param i) (suc d) δ rest m o h =
-        param-read s H Γ d δ i (m .0) rest (omega (arith, place-below Γ i (m .0) (m .1))) (m .1) (m .2)
-    expr-read (op p e) zero δ rest m o h = absurd (omega arith)
-    expr-read (op p e) (suc d) δ rest m o h =
-        op-read s H Γ d δ p (encodeExpr e ++ rest) e rest (m .0) (expr-read e d (operandDemand p δ) rest (m .1) o (omega arith))
-    expr-read (ifte c a b) zero δ rest m o h = absurd (omega arith)
-    expr-read (ifte c a b) (suc d) δ rest m o h =
+    pub expr-read : (e : Expr) (d : ℕ) (π : Place) (rest : List ℕ) → Meets P Γ (π .demand) e → ExprOfSort s e → depth e ≤ d
+        → exprFrom apart s H Γ d π (encodeExpr e ++ rest) ≡ got e rest
+    expr-read (constant b) zero π rest m o h = absurd (omega arith)
+    expr-read (constant b) (suc d) π rest m o h = constant-read s H Γ d π b rest m
+    expr-read (empty c) zero π rest m o h = absurd (omega arith)
+    expr-read (empty c) (suc d) π rest m o h = empty-read s H Γ d π c rest m o
+    expr-read (param i) zero π rest m o h = absurd (omega arith)
+    expr-read (param i) (suc d) π rest m o h =
+        param-read s H Γ d π i (m .0) rest (omega (arith, place-below Γ i (m .0) (m .1))) (m .1) (m .2)
+    expr-read (op p e) zero π rest m o h = absurd (omega arith)
+    expr-read (op p e) (suc d) π rest m o h =
+        op-read s H Γ d π p (encodeExpr e ++ rest) e rest (m .0) (expr-read e d (operandPlace p π) rest (m .1) o (omega arith))
+    expr-read (ifte c a b) zero π rest m o h = absurd (omega arith)
+    expr-read (ifte c a b) (suc d) π rest m o h =
         let after-a = encodeExpr b ++ rest in
         let after-c = encodeExpr a ++ after-a in
         let hc : depth c ≤ d = omega arith in
         let ha : depth a ≤ d = omega arith in
         let hb : depth b ≤ d = omega arith in
         simp append-assoc
-        (if-read s H Γ d δ (encodeExpr c ++ after-c) c after-c a after-a b rest
-        (expr-read c d (only truth) after-c (m .0) (o .0) hc) (expr-read a d δ after-a (m .1) (o .1) ha) (expr-read b d δ rest (m .2) (o .2) hb))
-    expr-read (call g xs) zero δ rest m o h = absurd (omega arith)
-    expr-read (call g xs) (suc d) δ rest m o h =
+        (if-read s H Γ d π (encodeExpr c ++ after-c) c after-c a after-a b rest
+        (expr-read c d conditionPlace after-c (m .0) (o .0) hc) (expr-read a d π after-a (m .1) (o .1) ha) (expr-read b d π rest (m .2) (o .2) hb))
+    expr-read (call g xs) zero π rest m o h = absurd (omega arith)
+    expr-read (call g xs) (suc d) π rest m o h =
         let w = header-of of-program g (m .0) (m .1) in
-        let meets : T (allows δ (resultKind (w .0))) = rw (w .2 .result) at (m .2) in
+        let meets : T (allows (π .demand) (resultKind (w .0))) = rw (w .2 .result) at (m .2) in
         let all : MeetAll P Γ (paramKinds (w .0)) xs = rw (w .2 .params) at (m .3) in
         let there = place-below P g (m .0) (m .1) in
-        call-read s H Γ d δ g (w .0) (encodeArgs xs ++ rest) xs rest (omega arith) (w .1) meets
+        call-read s H Γ d π g (w .0) (encodeArgs xs ++ rest) xs rest (omega arith) (w .1) meets
         (args-read xs d (paramKinds (w .0)) rest all o (omega arith))
 
     pub args-read : (xs : Args) (d : ℕ) (κs : List Kind) (rest : List ℕ) → MeetAll P Γ κs xs → ArgsOfSort s xs → depthAll xs ≤ d
-        → argsFrom (λ δ r. exprFrom s H Γ d δ r) κs (encodeArgs xs ++ rest) ≡ got xs rest
+        → argsFrom (λ π r. exprFrom apart s H Γ d π r) κs (encodeArgs xs ++ rest) ≡ got xs rest
     args-read noArgs d κs rest m o h = rw m
     args-read (arg e xs) d κs rest m o h =
         let he : depth e ≤ d = omega arith in
         let hx : depthAll xs ≤ d = omega arith in
-        let first = expr-read e d (only (m .0)) (encodeArgs xs ++ rest) (m .3) (o .0) he in
+        let first = expr-read e d (argumentPlace (m .0)) (encodeArgs xs ++ rest) (m .3) (o .0) he in
         let others = args-read xs d (m .1) rest (m .4) (o .1) hx in
         rw (m .2, append-assoc (encodeExpr e) (encodeArgs xs) rest, first, others)
 
@@ -215,125 +215,125 @@ ram-there : (s : Sort) → T (hasContact s Ram)
 ram-there One = tt
 ram-there Two = tt
 
-guard-inv : (s : Sort) (δ : Demand) (bs : List ℕ) (e : Expr) (rest : List ℕ) → guardEmptyFrom s δ bs ≡ got e rest
-    → T (hasContact s Guard) × (demanded δ (list Guard) (got (empty Guard) bs) ≡ got e rest)
-guard-inv One δ bs e rest q = absurd (not-got q)
-guard-inv Two δ bs e rest q = (tt, q)
+guard-inv : (s : Sort) (π : Place) (bs : List ℕ) (e : Expr) (rest : List ℕ) → guardEmptyFrom apart s π bs ≡ got e rest
+    → T (hasContact s Guard) × (demanded apart π (list Guard) (got (empty Guard) bs) ≡ got e rest)
+guard-inv One π bs e rest q = absurd (not-got q)
+guard-inv Two π bs e rest q = (tt, q)
 
 -- a reader whose readings are written so
 abbrev Faithful : Sort → Program → List Kind → ℕ → Reader → Type 0
-Faithful s P Γ d read = (δ : Demand) (bs : List ℕ) (e : Expr) (rest : List ℕ) → read δ bs ≡ got e rest → Written s P Γ d δ bs e rest
+Faithful s P Γ d read = (π : Place) (bs : List ℕ) (e : Expr) (rest : List ℕ) → read π bs ≡ got e rest → Written s P Γ d (π .demand) bs e rest
 
 module _ (s : Sort) (P : Program) (H : List Header) (of-program : Heads P H) (Γ : List Kind) where
   module _ (d : ℕ) (read : Reader) (sound : Faithful s P Γ d read) where
     operands : (κs : List Kind) (bs : List ℕ) (xs : Args) (rest : List ℕ) → argsFrom read κs bs ≡ got xs rest → AllWritten s P Γ d κs bs xs rest
     unfolding argsFrom
     operands [] bs xs rest q = same-all s P Γ d [] bs noArgs bs xs rest (none-written s P Γ d bs) q
-    operands (κ ∷ κs) bs xs rest q = first (λ r ys t. operands κs r ys t) (onward-inv (read (only κ) bs) _ xs rest q)
+    operands (κ ∷ κs) bs xs rest q = first (λ r ys t. operands κs r ys t) (onward-inv (read (argumentPlace κ) bs) _ xs rest q)
       where
         Rest : Type 0
         Rest = (r : List ℕ) (ys : Args) (t : List ℕ) → argsFrom read κs r ≡ got ys t → AllWritten s P Γ d κs r ys t
 
-        second : (e : Expr) (r : List ℕ) → read (only κ) bs ≡ got e r → Rest → Onward (argsFrom read κs r) (λ ys t. got (arg e ys) t) xs rest
+        second : (e : Expr) (r : List ℕ) → read (argumentPlace κ) bs ≡ got e r → Rest → Onward (argsFrom read κs r) (λ ys t. got (arg e ys) t) xs rest
             → AllWritten s P Γ d (κ ∷ κs) bs xs rest
         second e r p more (by ys t p′ l) =
-            same-all s P Γ d (κ ∷ κs) bs (arg e ys) t xs rest (arg-written s P Γ d κ κs bs e r ys t (sound (only κ) bs e r p) (more r ys t p′)) l
+            same-all s P Γ d (κ ∷ κs) bs (arg e ys) t xs rest (arg-written s P Γ d κ κs bs e r ys t (sound (argumentPlace κ) bs e r p) (more r ys t p′)) l
 
-        first : Rest → Onward (read (only κ) bs) (λ e r. onward (argsFrom read κs r) (λ ys t. got (arg e ys) t)) xs rest
+        first : Rest → Onward (read (argumentPlace κ) bs) (λ e r. onward (argsFrom read κs r) (λ ys t. got (arg e ys) t)) xs rest
             → AllWritten s P Γ d (κ ∷ κs) bs xs rest
         first more (by e r p l) = second e r p more (onward-inv (argsFrom read κs r) _ xs rest l)
 
-    param-node : (i : ℕ) (kind : Option Kind) → getElem? Γ i ≡ kind → (δ : Demand) (bs : List ℕ) (e : Expr) (rest : List ℕ)
-        → paramFrom kind δ i bs ≡ got e rest
-        → Written s P Γ (suc d) δ ((0x10 + i) ∷ bs) e rest
-    param-node i none k δ bs e rest q = absurd (not-got q)
-    param-node i (some κ) k δ bs e rest q =
-        let m = allowed-inv (allows δ κ) _ _ e rest q in
-        same-written s P Γ (suc d) δ _ (param i) bs e rest (param-written s P Γ d i κ δ bs k (m .0)) (m .1)
+    param-node : (i : ℕ) (kind : Option Kind) → getElem? Γ i ≡ kind → (π : Place) (bs : List ℕ) (e : Expr) (rest : List ℕ)
+        → paramFrom apart kind π i bs ≡ got e rest
+        → Written s P Γ (suc d) (π .demand) ((0x10 + i) ∷ bs) e rest
+    param-node i none k π bs e rest q = absurd (not-got q)
+    param-node i (some κ) k π bs e rest q =
+        let m = allowed-inv (allows (π .demand) κ) _ _ e rest q in
+        same-written s P Γ (suc d) (π .demand) _ (param i) bs e rest (param-written s P Γ d i κ (π .demand) bs k (m .0)) (m .1)
 
-    call-node : (g : ℕ) (head : Option Header) → getElem? H g ≡ head → (δ : Demand) (bs : List ℕ) (e : Expr) (rest : List ℕ)
-        → callFrom head read δ g bs ≡ got e rest
-        → Written s P Γ (suc d) δ ((0x80 + g) ∷ bs) e rest
-    call-node g none k δ bs e rest q = absurd (not-got q)
-    call-node g (some h) k δ bs e rest q =
-        let m = allowed-inv (allows δ (resultKind h)) _ _ e rest q in
+    call-node : (g : ℕ) (head : Option Header) → getElem? H g ≡ head → (π : Place) (bs : List ℕ) (e : Expr) (rest : List ℕ)
+        → callFrom apart head read π g bs ≡ got e rest
+        → Written s P Γ (suc d) (π .demand) ((0x80 + g) ∷ bs) e rest
+    call-node g none k π bs e rest q = absurd (not-got q)
+    call-node g (some h) k π bs e rest q =
+        let m = allowed-inv (allows (π .demand) (resultKind h)) _ _ e rest q in
         go (m .0) (onward-inv (argsFrom read (paramKinds h) bs) _ e rest (m .1))
       where
-        go : T (allows δ (resultKind h)) → Onward (argsFrom read (paramKinds h) bs) (λ xs r. got (call g xs) r) e rest
-            → Written s P Γ (suc d) δ ((0x80 + g) ∷ bs) e rest
+        go : T (allows (π .demand) (resultKind h)) → Onward (argsFrom read (paramKinds h) bs) (λ xs r. got (call g xs) r) e rest
+            → Written s P Γ (suc d) (π .demand) ((0x80 + g) ∷ bs) e rest
         go m (by xs r p l) =
             let w = function-of of-program g h k in
-            let meets : T (allows δ (w .0 .result)) = rw (w .2 .result) m in
+            let meets : T (allows (π .demand) (w .0 .result)) = rw (w .2 .result) m in
             let all : AllWritten s P Γ d (w .0 .params) bs xs r = rw (w .2 .params) (operands (paramKinds h) bs xs r p) in
-            same-written s P Γ (suc d) δ _ (call g xs) r e rest (call-written s P Γ d g (w .0) δ bs xs r (w .1) meets all) l
+            same-written s P Γ (suc d) (π .demand) _ (call g xs) r e rest (call-written s P Γ d g (w .0) (π .demand) bs xs r (w .1) meets all) l
 
-    op-node : (p : Op) (δ : Demand) (bs : List ℕ) (e : Expr) (rest : List ℕ) → opFrom p read δ bs ≡ got e rest
-        → Written s P Γ (suc d) δ (opByte p ∷ bs) e rest
-    op-node p δ bs e rest q =
-        let m = allowed-inv (opAllowed p δ) _ _ e rest q in go (m .0) (onward-inv (read (operandDemand p δ) bs) _ e rest (m .1))
+    op-node : (p : Op) (π : Place) (bs : List ℕ) (e : Expr) (rest : List ℕ) → opFrom apart p read π bs ≡ got e rest
+        → Written s P Γ (suc d) (π .demand) (opByte p ∷ bs) e rest
+    op-node p π bs e rest q =
+        let m = allowed-inv (opAllowed p (π .demand)) _ _ e rest q in go (m .0) (onward-inv (read (operandPlace p π) bs) _ e rest (m .1))
       where
-        go : T (opAllowed p δ) → Onward (read (operandDemand p δ) bs) (λ a r. got (op p a) r) e rest → Written s P Γ (suc d) δ (opByte p ∷ bs) e rest
+        go : T (opAllowed p (π .demand)) → Onward (read (operandPlace p π) bs) (λ a r. got (op p a) r) e rest → Written s P Γ (suc d) (π .demand) (opByte p ∷ bs) e rest
         go m (by a r k l) =
-            same-written s P Γ (suc d) δ _ (op p a) r e rest (op-written s P Γ d p δ bs a r m (sound (operandDemand p δ) bs a r k)) l
+            same-written s P Γ (suc d) (π .demand) _ (op p a) r e rest (op-written s P Γ d p (π .demand) bs a r m (sound (operandPlace p π) bs a r k)) l
 
-    if-node : (δ : Demand) (bs : List ℕ) (e : Expr) (rest : List ℕ) → ifFrom read δ bs ≡ got e rest → Written s P Γ (suc d) δ (0x23 ∷ bs) e rest
-    if-node δ bs e rest q = first (onward-inv (read (only truth) bs) _ e rest q)
+    if-node : (π : Place) (bs : List ℕ) (e : Expr) (rest : List ℕ) → ifFrom read π bs ≡ got e rest → Written s P Γ (suc d) (π .demand) (0x23 ∷ bs) e rest
+    if-node π bs e rest q = first (onward-inv (read conditionPlace bs) _ e rest q)
       where
-        third : (c : Expr) (r : List ℕ) (a : Expr) (r′ : List ℕ) → Written s P Γ d (only truth) bs c r → Written s P Γ d δ r a r′
-            → Onward (read δ r′) (λ b r″. got (ifte c a b) r″) e rest
-            → Written s P Γ (suc d) δ (0x23 ∷ bs) e rest
+        third : (c : Expr) (r : List ℕ) (a : Expr) (r′ : List ℕ) → Written s P Γ d (only truth) bs c r → Written s P Γ d (π .demand) r a r′
+            → Onward (read π r′) (λ b r″. got (ifte c a b) r″) e rest
+            → Written s P Γ (suc d) (π .demand) (0x23 ∷ bs) e rest
         third c r a r′ u v (by b r″ k l) =
-            same-written s P Γ (suc d) δ _ (ifte c a b) r″ e rest (if-written s P Γ d δ bs c r a r′ b r″ u v (sound δ r′ b r″ k)) l
+            same-written s P Γ (suc d) (π .demand) _ (ifte c a b) r″ e rest (if-written s P Γ d (π .demand) bs c r a r′ b r″ u v (sound π r′ b r″ k)) l
 
         second : (c : Expr) (r : List ℕ) → Written s P Γ d (only truth) bs c r
-            → Onward (read δ r) (λ a r′. onward (read δ r′) (λ b r″. got (ifte c a b) r″)) e rest
-            → Written s P Γ (suc d) δ (0x23 ∷ bs) e rest
-        second c r u (by a r′ k l) = third c r a r′ u (sound δ r a r′ k) (onward-inv (read δ r′) _ e rest l)
+            → Onward (read π r) (λ a r′. onward (read π r′) (λ b r″. got (ifte c a b) r″)) e rest
+            → Written s P Γ (suc d) (π .demand) (0x23 ∷ bs) e rest
+        second c r u (by a r′ k l) = third c r a r′ u (sound π r a r′ k) (onward-inv (read π r′) _ e rest l)
 
-        first : Onward (read (only truth) bs) (λ c r. onward (read δ r) (λ a r′. onward (read δ r′) (λ b r″. got (ifte c a b) r″))) e rest
-            → Written s P Γ (suc d) δ (0x23 ∷ bs) e rest
-        first (by c r k l) = second c r (sound (only truth) bs c r k) (onward-inv (read δ r) _ e rest l)
+        first : Onward (read conditionPlace bs) (λ c r. onward (read π r) (λ a r′. onward (read π r′) (λ b r″. got (ifte c a b) r″))) e rest
+            → Written s P Γ (suc d) (π .demand) (0x23 ∷ bs) e rest
+        first (by c r k l) = second c r (sound conditionPlace bs c r k) (onward-inv (read π r) _ e rest l)
 
     -- a node without operands
-    leaf : (e₀ : Expr) (δ : Demand) (κ : Kind) (bs : List ℕ) (e : Expr) (rest : List ℕ)
-        → (T (allows δ κ) → Written s P Γ (suc d) δ (encodeExpr e₀ ++ bs) e₀ bs) → demanded δ κ (got e₀ bs) ≡ got e rest
-        → Written s P Γ (suc d) δ (encodeExpr e₀ ++ bs) e rest
-    leaf e₀ δ κ bs e rest made q =
-        let m = allowed-inv (allows δ κ) _ _ e rest q in same-written s P Γ (suc d) δ _ e₀ bs e rest (made (m .0)) (m .1)
+    leaf : (e₀ : Expr) (π : Place) (κ : Kind) (bs : List ℕ) (e : Expr) (rest : List ℕ)
+        → (T (allows (π .demand) κ) → Written s P Γ (suc d) (π .demand) (encodeExpr e₀ ++ bs) e₀ bs) → demanded apart π κ (got e₀ bs) ≡ got e rest
+        → Written s P Γ (suc d) (π .demand) (encodeExpr e₀ ++ bs) e rest
+    leaf e₀ π κ bs e rest made q =
+        let m = allowed-inv (allows (π .demand) κ) _ _ e rest q in same-written s P Γ (suc d) (π .demand) _ e₀ bs e rest (made (m .0)) (m .1)
 
-    constant-node : (b : Bool) (δ : Demand) (bs : List ℕ) (e : Expr) (rest : List ℕ) → demanded δ truth (got (constant b) bs) ≡ got e rest
-        → Written s P Γ (suc d) δ (encodeExpr (constant b) ++ bs) e rest
-    constant-node b δ bs e rest q = leaf (constant b) δ truth bs e rest (λ m. constant-written s P Γ d b δ bs m) q
+    constant-node : (b : Bool) (π : Place) (bs : List ℕ) (e : Expr) (rest : List ℕ) → demanded apart π truth (got (constant b) bs) ≡ got e rest
+        → Written s P Γ (suc d) (π .demand) (encodeExpr (constant b) ++ bs) e rest
+    constant-node b π bs e rest q = leaf (constant b) π truth bs e rest (λ m. constant-written s P Γ d b (π .demand) bs m) q
 
-    empty-node : (c : Contact) → T (hasContact s c) → (δ : Demand) (bs : List ℕ) (e : Expr) (rest : List ℕ)
-        → demanded δ (list c) (got (empty c) bs) ≡ got e rest → Written s P Γ (suc d) δ (encodeExpr (empty c) ++ bs) e rest
-    empty-node c has δ bs e rest q = leaf (empty c) δ (list c) bs e rest (λ m. empty-written s P Γ d c δ bs m has) q
+    empty-node : (c : Contact) → T (hasContact s c) → (π : Place) (bs : List ℕ) (e : Expr) (rest : List ℕ)
+        → demanded apart π (list c) (got (empty c) bs) ≡ got e rest → Written s P Γ (suc d) (π .demand) (encodeExpr (empty c) ++ bs) e rest
+    empty-node c has π bs e rest q = leaf (empty c) π (list c) bs e rest (λ m. empty-written s P Γ d c (π .demand) bs m has) q
 
-    node-written : (n : Node) (b : ℕ) → ByteOf n b → (δ : Demand) (bs : List ℕ) (e : Expr) (rest : List ℕ) → nodeFrom s H Γ read δ n bs ≡ got e rest
-        → Written s P Γ (suc d) δ (b ∷ bs) e rest
+    node-written : (n : Node) (b : ℕ) → ByteOf n b → (π : Place) (bs : List ℕ) (e : Expr) (rest : List ℕ) → nodeFrom apart s H Γ read π n bs ≡ got e rest
+        → Written s P Γ (suc d) (π .demand) (b ∷ bs) e rest
     unfolding encodeExpr
-    node-written node.False b byte δ bs e rest q = rw byte (constant-node false δ bs e rest q)
-    node-written node.True b byte δ bs e rest q = rw byte (constant-node true δ bs e rest q)
-    node-written node.Empty b byte δ bs e rest q = rw byte (empty-node Ram (ram-there s) δ bs e rest q)
-    node-written node.EmptyGuard b byte δ bs e rest q =
-        let g = guard-inv s δ bs e rest q in rw byte (empty-node Guard (g .0) δ bs e rest (g .1))
-    node-written (node.Param i) b byte δ bs e rest q = rw (byte .0) (param-node i (getElem? Γ i) refl δ bs e rest q)
-    node-written node.Head b byte δ bs e rest q = rw byte (op-node hd δ bs e rest q)
-    node-written node.Tail b byte δ bs e rest q = rw byte (op-node tl δ bs e rest q)
-    node-written node.Null b byte δ bs e rest q = rw byte (op-node null δ bs e rest q)
-    node-written node.If b byte δ bs e rest q = rw byte (if-node δ bs e rest q)
-    node-written node.Cons b byte δ bs e rest q = absurd (not-got q)
-    node-written (node.Call g) b byte δ bs e rest q = rw (byte .0) (call-node g (getElem? H g) refl δ bs e rest q)
-    node-written node.Unknown b byte δ bs e rest q = absurd (not-got q)
+    node-written node.False b byte π bs e rest q = rw byte (constant-node false π bs e rest q)
+    node-written node.True b byte π bs e rest q = rw byte (constant-node true π bs e rest q)
+    node-written node.Empty b byte π bs e rest q = rw byte (empty-node Ram (ram-there s) π bs e rest q)
+    node-written node.EmptyGuard b byte π bs e rest q =
+        let g = guard-inv s π bs e rest q in rw byte (empty-node Guard (g .0) π bs e rest (g .1))
+    node-written (node.Param i) b byte π bs e rest q = rw (byte .0) (param-node i (getElem? Γ i) refl π bs e rest q)
+    node-written node.Head b byte π bs e rest q = rw byte (op-node hd π bs e rest q)
+    node-written node.Tail b byte π bs e rest q = rw byte (op-node tl π bs e rest q)
+    node-written node.Null b byte π bs e rest q = rw byte (op-node null π bs e rest q)
+    node-written node.If b byte π bs e rest q = rw byte (if-node π bs e rest q)
+    node-written node.Cons b byte π bs e rest q = absurd (not-got q)
+    node-written (node.Call g) b byte π bs e rest q = rw (byte .0) (call-node g (getElem? H g) refl π bs e rest q)
+    node-written node.Unknown b byte π bs e rest q = absurd (not-got q)
 
-  pub expr-written : (d : ℕ) (δ : Demand) (bs : List ℕ) (e : Expr) (rest : List ℕ) → exprFrom s H Γ d δ bs ≡ got e rest → Written s P Γ d δ bs e rest
+  pub expr-written : (d : ℕ) (π : Place) (bs : List ℕ) (e : Expr) (rest : List ℕ) → exprFrom apart s H Γ d π bs ≡ got e rest → Written s P Γ d (π .demand) bs e rest
   unfolding exprFrom
-  expr-written zero δ [] e rest q = absurd (not-got q)
-  expr-written zero δ (b ∷ bs) e rest q = absurd (not-got q)
-  expr-written (suc d) δ [] e rest q = absurd (not-got q)
-  expr-written (suc d) δ (b ∷ bs) e rest q =
-      node-written d (λ δ′ r. exprFrom s H Γ d δ′ r) (λ δ′ r x t p. expr-written d δ′ r x t p) (nodeOf b) b (node-inv b (nodeOf b) refl) δ bs e rest q
+  expr-written zero π [] e rest q = absurd (not-got q)
+  expr-written zero π (b ∷ bs) e rest q = absurd (not-got q)
+  expr-written (suc d) π [] e rest q = absurd (not-got q)
+  expr-written (suc d) π (b ∷ bs) e rest q =
+      node-written d (λ π′ r. exprFrom apart s H Γ d π′ r) (λ π′ r x t p. expr-written d π′ r x t p) (nodeOf b) b (node-inv b (nodeOf b) refl) π bs e rest q
 
   pub args-written : (d : ℕ) (κs : List Kind) (bs : List ℕ) (xs : Args) (rest : List ℕ)
-      → argsFrom (λ δ r. exprFrom s H Γ d δ r) κs bs ≡ got xs rest → AllWritten s P Γ d κs bs xs rest
-  args-written d κs bs xs rest q = operands d (λ δ r. exprFrom s H Γ d δ r) (λ δ r e t p. expr-written d δ r e t p) κs bs xs rest q
+      → argsFrom (λ π r. exprFrom apart s H Γ d π r) κs bs ≡ got xs rest → AllWritten s P Γ d κs bs xs rest
+  args-written d κs bs xs rest q = operands d (λ π r. exprFrom apart s H Γ d π r) (λ π r e t p. expr-written d π r e t p) κs bs xs rest q

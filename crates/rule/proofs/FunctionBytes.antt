@@ -30,7 +30,7 @@ use Rattle.syntax.specs.Limits.{mostFunctions, mostBody, mostDepth}
 use Rattle.rule.specs.Form.{AreBytes, encodeExpr, depth, kindsByte, guardByte, encodeFunction, encodeFunctions, ExprOfSort, Fits}
 use Rattle.syntax.specs.Bytes.{headerBytes, guardByteIn, kindsFault, guardFault, lengthFault, bodyLength, headerOf}
 use Rattle.syntax.proofs.HeaderWays.{header-is, header-fault, header-guarded, header-size}
-use Rattle.rule.specs.Reading.{Parsed, got, refused, onward, paramKinds, resultKind, Raw, rawFrom, rawsFrom, exprFrom, wholeBody, functionFrom, functionsFrom, headers}
+use Rattle.rule.specs.Reading.{Parsed, got, refused, onward, paramKinds, resultKind, Raw, rawFrom, rawsFrom, exprFrom, wholeBody, functionFrom, functionsFrom, headers, apart, bodyPlace}
 use Rattle.rule.proofs.KindBytes.{kinds-back, kinds-sound, guard-sound, kinds-few, kinds-again, guard-again, GuardOfSort, guard-of-sort, kind-of-sort, kinds-of-sort, length-kinds}
 use Rattle.rule.proofs.Parsing.{not-got, got-inv, Onward, by, onward-inv}
 use Rattle.rule.proofs.Scanning.{size-fits}
@@ -145,19 +145,19 @@ module _ (s : Sort) where
 
   -- a body that is read whole at its header
   whole : (H : List Header) (x : Raw) (f : Function) → Head f (x .header)
-      → exprFrom s H (f .params) mostDepth (only (f .result)) (x .body) ≡ got (f .body) [] → functionFrom s H x ≡ got f []
+      → exprFrom apart s H (f .params) mostDepth (bodyPlace (f .result)) (x .body) ≡ got (f .body) [] → functionFrom apart s H x ≡ got f []
   whole H x f h reading = rw (← h .params, ← h .result, reading) (rw (← h .params, ← h .result))
 
   module _ (P : Program) (H : List Header) (of-program : Heads P H) (few : length P ≤ mostFunctions) where
-    function-read : (f : Function) → Fits s f → Meets P (f .params) (only (f .result)) (f .body) → functionFrom s H (rawFor f) ≡ got f []
+    function-read : (f : Function) → Fits s f → Meets P (f .params) (only (f .result)) (f .body) → functionFrom apart s H (rawFor f) ≡ got f []
     function-read f fit meets =
         whole H (rawFor f) f (head-for f fit)
         (rw append-nil at
-        (expr-read s P H of-program few (f .params) (fit .params) (f .body) mostDepth (only (f .result)) [] meets (fit .lists) (fit .deep)))
+        (expr-read s P H of-program few (f .params) (fit .params) (f .body) mostDepth (bodyPlace (f .result)) [] meets (fit .lists) (fit .deep)))
 
     pub functions-read : (Q : Program)
         → ((g : ℕ) (f : Function) → getElem? Q g ≡ some f → Fits s f × Meets P (f .params) (only (f .result)) (f .body))
-        → functionsFrom s H (map rawFor Q) ≡ got Q []
+        → functionsFrom apart s H (map rawFor Q) ≡ got Q []
     unfolding functionsFrom
     functions-read [] good = refl
     functions-read (f ∷ Q) good =
@@ -271,36 +271,36 @@ module _ (s : Sort) where
 pub data Bodies (s : Sort) (H : List Header) : List Raw → Program → Type 0 where
   no-bodies : Bodies s H [] []
   one-body : {x : Raw} {xs : List Raw} {f : Function} {P : Program} → Head f (x .header)
-      → exprFrom s H (f .params) mostDepth (only (f .result)) (x .body) ≡ got (f .body) [] → Bodies s H xs P → Bodies s H (x ∷ xs) (f ∷ P)
+      → exprFrom apart s H (f .params) mostDepth (bodyPlace (f .result)) (x .body) ≡ got (f .body) [] → Bodies s H xs P → Bodies s H (x ∷ xs) (f ∷ P)
 
 module _ (s : Sort) (H : List Header) where
   body-read : (x : Raw) (p : Parsed Expr)
-      → exprFrom s H (paramKinds (x .header)) mostDepth (only (resultKind (x .header))) (x .body) ≡ p
+      → exprFrom apart s H (paramKinds (x .header)) mostDepth (bodyPlace (resultKind (x .header))) (x .body) ≡ p
       → (f : Function) (r : List ℕ) → wholeBody (x .header) p ≡ got f r
-      → Head f (x .header) × (exprFrom s H (f .params) mostDepth (only (f .result)) (x .body) ≡ got (f .body) [])
+      → Head f (x .header) × (exprFrom apart s H (f .params) mostDepth (bodyPlace (f .result)) (x .body) ≡ got (f .body) [])
   body-read x (got e []) p f r q = rw (got-inv q .0) (record { params = refl; result = refl }, p)
   body-read x (got e (b ∷ bs)) p f r q = absurd (not-got q)
   body-read x (refused g) p f r q = absurd (not-got q)
 
-  pub bodies-read : (xs : List Raw) (P : Program) (r : List ℕ) → functionsFrom s H xs ≡ got P r → Bodies s H xs P × (r ≡ [])
+  pub bodies-read : (xs : List Raw) (P : Program) (r : List ℕ) → functionsFrom apart s H xs ≡ got P r → Bodies s H xs P × (r ≡ [])
   unfolding functionsFrom
   bodies-read [] P r q = let same = got-inv q in rw (same .0, same .1) (no-bodies, refl)
-  bodies-read (x ∷ xs) P r q = first (λ Q t. bodies-read xs Q t) (onward-inv (functionFrom s H x) _ P r q)
+  bodies-read (x ∷ xs) P r q = first (λ Q t. bodies-read xs Q t) (onward-inv (functionFrom apart s H x) _ P r q)
     where
       Rest : Type 0
-      Rest = (Q : Program) (t : List ℕ) → functionsFrom s H xs ≡ got Q t → Bodies s H xs Q × (t ≡ [])
+      Rest = (Q : Program) (t : List ℕ) → functionsFrom apart s H xs ≡ got Q t → Bodies s H xs Q × (t ≡ [])
 
-      second : (f : Function) (t : List ℕ) → functionFrom s H x ≡ got f t → Rest
-          → Onward (functionsFrom s H xs) (λ Q u. got (f ∷ Q) u) P r → Bodies s H (x ∷ xs) P × (r ≡ [])
+      second : (f : Function) (t : List ℕ) → functionFrom apart s H x ≡ got f t → Rest
+          → Onward (functionsFrom apart s H xs) (λ Q u. got (f ∷ Q) u) P r → Bodies s H (x ∷ xs) P × (r ≡ [])
       second f t p more (by Q u p′ l) =
           let same = got-inv l in
           let w = body-read x _ refl f t p in
           let v = more Q u p′ in
           rw (same .0, same .1) (one-body (w .0) (w .1) (v .0), v .1)
 
-      first : Rest → Onward (functionFrom s H x) (λ f t. onward (functionsFrom s H xs) (λ Q u. got (f ∷ Q) u)) P r
+      first : Rest → Onward (functionFrom apart s H x) (λ f t. onward (functionsFrom apart s H xs) (λ Q u. got (f ∷ Q) u)) P r
           → Bodies s H (x ∷ xs) P × (r ≡ [])
-      first more (by f t p l) = second f t p more (onward-inv (functionsFrom s H xs) _ P r l)
+      first more (by f t p l) = second f t p more (onward-inv (functionsFrom apart s H xs) _ P r l)
 
 pub bodies-heads : {s : Sort} {H : List Header} {xs : List Raw} {P : Program} → Bodies s H xs P → Heads P (headers xs)
 bodies-heads no-bodies = no-heads
@@ -347,10 +347,10 @@ each Good f P first rest (suc g) x e = rest g x e
 module _ (s : Sort) (P : Program) (H : List Header) (of-program : Heads P H) where
   -- a function that was read at a header
   function-written : (x : Raw) (f : Function) → Sound s x → Head f (x .header)
-      → exprFrom s H (f .params) mostDepth (only (f .result)) (x .body) ≡ got (f .body) []
+      → exprFrom apart s H (f .params) mostDepth (bodyPlace (f .result)) (x .body) ≡ got (f .body) []
       → (x ≡ rawFor f) × Fits s f × Meets P (f .params) (only (f .result)) (f .body)
   function-written x f sound h p =
-      let w = expr-written s P H of-program (f .params) mostDepth (only (f .result)) (x .body) (f .body) [] p in
+      let w = expr-written s P H of-program (f .params) mostDepth (bodyPlace (f .result)) (x .body) (f .body) [] p in
       let same = raw-back s x f sound h (w .0 ∙ append-nil (encodeExpr (f .body))) in
       (same, function-fits s x f sound h same (w .1) (w .3), w .2)
 
@@ -384,7 +384,7 @@ pub record FunctionsAt (s : Sort) (n : ℕ) (bs : List ℕ) (xs : List Raw) (aft
   pub none : rest ≡ []
 
 pub functions-inv : (s : Sort) (n : ℕ) (bs : List ℕ) (xs : List Raw) (after : List ℕ) (P : Program) (rest : List ℕ) → AreBytes bs
-    → rawsFrom s n bs ≡ got xs after → functionsFrom s (headers xs) xs ≡ got P rest
+    → rawsFrom s n bs ≡ got xs after → functionsFrom apart s (headers xs) xs ≡ got P rest
     → FunctionsAt s n bs xs after P rest
 functions-inv s n bs xs after P rest are p q =
     let raws = raws-written s n bs xs after are p in

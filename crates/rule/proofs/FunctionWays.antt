@@ -23,7 +23,7 @@ use Rattle.semantics.specs.Language.{Program}
 use Rattle.rule.specs.declared.Outline.{Outline}
 use Rattle.rule.specs.declared.Judged.{Judged}
 use Rattle.rule.specs.declared.functions.Scan.{Scan}
-use Rattle.rule.specs.Reading.{Parsed, got, refused, onward, Raw, rawsFrom, headers, mainFirst, functionsFrom, bodiesFrom, checkFrom}
+use Rattle.rule.specs.Reading.{Parsed, got, refused, onward, Raw, rawsFrom, headers, mainFirst, functionsFrom, bodiesFrom, checkFrom, apart}
 use Rattle.rule.specs.Outline.{judgedFrom}
 use Rattle.rule.specs.Walk.{Counted, Placed, rawOutline, scanFrom, mainBits, bodiesAt, frameAt}
 use Rattle.rule.proofs.CheckMeaning.{CheckMeans, check-means}
@@ -38,11 +38,11 @@ pub record Read (s : Sort) (bytes : List ℕ) (count : ℕ) (scan : Scan) : Type
   pub means : CheckMeans s bytes count xs rest
 
 module _ (s : Sort) (bytes : List ℕ) (count : ℕ) (scan : Scan) (e : scan ≡ scanFrom s (length bytes) (rawsFrom s count (drop 1 bytes))) where
-  pub scan-stopped : {f : Refusal} → scan .check ≡ Refused f → judgedFrom s (onward (rawsFrom s count (drop 1 bytes)) (bodiesFrom s)) ≡ judgedFrom
+  pub scan-stopped : {f : Refusal} → scan .check ≡ Refused f → judgedFrom s (onward (rawsFrom s count (drop 1 bytes)) (bodiesFrom apart s)) ≡ judgedFrom
       s (refused f)
   scan-stopped {f} q = go (rawsFrom s count (drop 1 bytes)) (ap (λ (x : Scan). x .check) (sym e) ∙ q)
     where
-      go : (p : Parsed (List Raw)) → scanFrom s (length bytes) p .check ≡ Refused f → judgedFrom s (onward p (bodiesFrom s)) ≡ judgedFrom s (refused f)
+      go : (p : Parsed (List Raw)) → scanFrom s (length bytes) p .check ≡ Refused f → judgedFrom s (onward p (bodiesFrom apart s)) ≡ judgedFrom s (refused f)
       go (got xs rest) q = absurd (numbers.refused (sym q))
       go (refused g) q = ap (λ (x : Refusal). judgedFrom s (refused x)) (refused-same q)
 
@@ -64,7 +64,7 @@ module _ (s : Sort) (bytes : List ℕ) (count : ℕ) (scan : Scan) (e : scan ≡
 
 module _ {s : Sort} {bytes : List ℕ} {count : ℕ} {scan : Scan} (r : Read s bytes count scan) where
   pub bytes-after : scan .end < length bytes
-      → judgedFrom s (onward (rawsFrom s count (drop 1 bytes)) (bodiesFrom s)) ≡ judgedFrom s (refused BytesAfterFunctions)
+      → judgedFrom s (onward (rawsFrom s count (drop 1 bytes)) (bodiesFrom apart s)) ≡ judgedFrom s (refused BytesAfterFunctions)
   bytes-after h =
       let some : length (r .rest) ≡ 0 → ⊥ = λ z. omega (arith, r .end) in
       rw (r .raws, ne-eqb _ _ some)
@@ -78,10 +78,10 @@ module _ {s : Sort} {bytes : List ℕ} {count : ℕ} {scan : Scan} (r : Read s b
     main-bits q = q ∙ ap (λ (l : Outline). mainBits s (getD (l .params) 0 0) (getD (l .kinds) 0 0) (getD (l .guards) 0 0)) (r .outline) ∙ r .means .main
 
     pub wrong-main : mainFirst s (headers (r .xs)) ≡ false
-        → judgedFrom s (onward (rawsFrom s count (drop 1 bytes)) (bodiesFrom s)) ≡ judgedFrom s (refused MainKind)
+        → judgedFrom s (onward (rawsFrom s count (drop 1 bytes)) (bodiesFrom apart s)) ≡ judgedFrom s (refused MainKind)
     wrong-main m = rw (r .raws, none, m)
 
-    bodies-left : mainFirst s (headers (r .xs)) ≡ true → onward (rawsFrom s count (drop 1 bytes)) (bodiesFrom s) ≡ functionsFrom s
+    bodies-left : mainFirst s (headers (r .xs)) ≡ true → onward (rawsFrom s count (drop 1 bytes)) (bodiesFrom apart s) ≡ functionsFrom apart s
         (headers (r .xs)) (r .xs)
     bodies-left m = rw (r .raws, none, m)
 
@@ -89,7 +89,7 @@ module _ {s : Sort} {bytes : List ℕ} {count : ℕ} {scan : Scan} (r : Read s b
         → k ≡ bodiesAt
         (frameAt bytes s count (scan .outline .params) (scan .outline .kinds) (scan .outline .guards) (scan .outline .starts) (scan .outline .ends))
         count 0
-        → k ≡ checkFrom (functionsFrom s (headers (r .xs)) (r .xs))
+        → k ≡ checkFrom (functionsFrom apart s (headers (r .xs)) (r .xs))
     bodies-are q =
         q ∙ ap (λ (l : Outline). bodiesAt (frameAt bytes s count (l .params) (l .kinds) (l .guards) (l .starts) (l .ends)) count 0) (r .outline)
         ∙ r .means .bodies
@@ -101,9 +101,9 @@ module _ {s : Sort} {bytes : List ℕ} {count : ℕ} {scan : Scan} (r : Read s b
         (q : k ≡ bodiesAt (frameAt bytes s count (scan .outline .params) (scan .outline .kinds) (scan .outline .guards) (scan .outline .starts)
         (scan .outline .ends)) count 0)
       where
-        pub bodies-refused : {f : Refusal} → k ≡ Refused f → judgedFrom s (onward (rawsFrom s count (drop 1 bytes)) (bodiesFrom s)) ≡ judgedFrom s
+        pub bodies-refused : {f : Refusal} → k ≡ Refused f → judgedFrom s (onward (rawsFrom s count (drop 1 bytes)) (bodiesFrom apart s)) ≡ judgedFrom s
             (refused f)
-        bodies-refused {f} e = ap (judgedFrom s) (bodies-left m) ∙ go (functionsFrom s (headers (r .xs)) (r .xs)) (sym (bodies-are q) ∙ e)
+        bodies-refused {f} e = ap (judgedFrom s) (bodies-left m) ∙ go (functionsFrom apart s (headers (r .xs)) (r .xs)) (sym (bodies-are q) ∙ e)
           where
             go : (p : Parsed Program) → checkFrom p ≡ Refused f → judgedFrom s p ≡ judgedFrom s (refused f)
             go (got P rest) z = absurd (numbers.refused (sym z))
@@ -111,10 +111,10 @@ module _ {s : Sort} {bytes : List ℕ} {count : ℕ} {scan : Scan} (r : Read s b
 
         pub all-passed : k ≡ Passed
             → _≡_ {A = Judged} (record { check = Passed; outline = scan .outline })
-            (judgedFrom s (onward (rawsFrom s count (drop 1 bytes)) (bodiesFrom s)))
-        all-passed e = go (functionsFrom s (headers (r .xs)) (r .xs)) refl (sym (bodies-are q) ∙ e) ∙ sym (ap (judgedFrom s) (bodies-left m))
+            (judgedFrom s (onward (rawsFrom s count (drop 1 bytes)) (bodiesFrom apart s)))
+        all-passed e = go (functionsFrom apart s (headers (r .xs)) (r .xs)) refl (sym (bodies-are q) ∙ e) ∙ sym (ap (judgedFrom s) (bodies-left m))
           where
-            go : (p : Parsed Program) → functionsFrom s (headers (r .xs)) (r .xs) ≡ p → checkFrom p ≡ Passed
+            go : (p : Parsed Program) → functionsFrom apart s (headers (r .xs)) (r .xs) ≡ p → checkFrom p ≡ Passed
                 → _≡_ {A = Judged} (record { check = Passed; outline = scan .outline }) (judgedFrom s p)
             go (got P rest) w z = λ i. record { check = Passed; outline = (r .outline ∙ r .means .outline P rest w) i }
             go (refused g) w z = absurd (numbers.refused z)

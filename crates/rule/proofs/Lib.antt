@@ -6,6 +6,7 @@ pub mod Parsing
 pub mod Expressions
 pub mod FunctionBytes
 pub mod Programs
+pub mod OneNumber
 pub mod Places
 pub mod Walking
 pub mod Copying

@@ -22,7 +22,7 @@ use Rattle.syntax.specs.declared.HeaderRead.the-variants.{Found, Refused}
 use Rattle.syntax.specs.Limits.{mostFunctions, mostParams, mostBytes}
 use Rattle.rule.specs.Form.{encodeExpr, padded, kindsByte, guardByte}
 use Rattle.syntax.specs.Bytes.{headerBytes, headerOf}
-use Rattle.rule.specs.Reading.{got, onward, Raw, rawFrom, rawsFrom, functionsFrom, headers}
+use Rattle.rule.specs.Reading.{got, onward, Raw, rawFrom, rawsFrom, functionsFrom, headers, apart}
 use Rattle.rule.specs.Outline.{startsFrom, endsFrom, outlineOf}
 use Rattle.rule.specs.Walk.{Frame, frameAt, Placed, rawStarts, rawEnds, rawOutline}
 use Rattle.rule.proofs.Padded.{getD-padded}
@@ -145,7 +145,7 @@ module _ (s : Sort) where
         ends = padded mostFunctions 0 (ends-for P 1 i);
       }
 
-  pub outline-means : (xs : List Raw) (P : Program) (rest : List ℕ) → AllSound s xs → functionsFrom s (headers xs) xs ≡ got P rest
+  pub outline-means : (xs : List Raw) (P : Program) (rest : List ℕ) → AllSound s xs → functionsFrom apart s (headers xs) xs ≡ got P rest
       → rawOutline s xs ≡ outlineOf s P
   outline-means xs P rest sound q =
       let bodies = bodies-read s (headers xs) xs P rest q .0 in

@@ -19,37 +19,37 @@ use Rattle.rule.specs.declared.Sorts.{Sorts}
 use Rattle.rule.specs.declared.Judged.{Judged}
 use Rattle.syntax.specs.Limits.{mostFunctions, mostBytes}
 use Rattle.syntax.specs.Bytes.{countIn}
-use Rattle.rule.specs.Reading.{Parsed, refused, onward, rawsFrom, bodiesFrom, takes, programSort, programFor, programCheck}
+use Rattle.rule.specs.Reading.{Parsed, refused, onward, rawsFrom, bodiesFrom, takes, programSort, programBy, programFor, programCheck, apart}
 use Rattle.rule.specs.Outline.{outlineOf, outlineFrom, judgedFrom}
 use Rattle.rule.proofs.Scanning.{no-outline}
 
 module _ (sorts : Sorts) (bytes : List ℕ) where
   pub program-empty : length bytes ≡ 0 → programFor sorts bytes ≡ refused ProgramLength
-  unfolding programFor
+  unfolding programBy
   program-empty h = simp (eq-eqb _ _ h)
 
   module _ (some : length bytes ≡ 0 → ⊥) where
     pub program-long : mostBytes < length bytes → programFor sorts bytes ≡ refused ProgramLength
-    unfolding programFor
+    unfolding programBy
     program-long h = simp (ne-eqb _ _ some, lt-ltb _ _ h)
 
     module _ (short : length bytes ≤ mostBytes) {count : ℕ} (counted : count ≡ countIn (getD bytes 0 0)) where
       pub program-none : count ≡ 0 → programFor sorts bytes ≡ refused FunctionCount
-      unfolding programFor
+      unfolding programBy
       program-none h = simp (ne-eqb _ _ some, le-ltb _ _ short, sym counted, eq-eqb _ _ h)
 
       module _ (one : count ≡ 0 → ⊥) where
         pub program-many : mostFunctions < count → programFor sorts bytes ≡ refused FunctionCount
-        unfolding programFor
+        unfolding programBy
         program-many h = simp (ne-eqb _ _ some, le-ltb _ _ short, sym counted, ne-eqb _ _ one, lt-ltb _ _ h)
 
         module _ (few : count ≤ mostFunctions) {s : Sort} (sorted : s ≡ programSort bytes) {b : Bool} (t : b ≡ takes sorts s) where
           pub program-other : b ≡ false → programFor sorts bytes ≡ refused FunctionCount
-          unfolding programFor
+          unfolding programBy
           program-other e = simp (ne-eqb _ _ some, le-ltb _ _ short, sym counted, ne-eqb _ _ one, le-ltb _ _ few, sym sorted, sym t ∙ e)
 
-          pub program-counted : b ≡ true → programFor sorts bytes ≡ onward (rawsFrom s count (drop 1 bytes)) (bodiesFrom s)
-          unfolding programFor
+          pub program-counted : b ≡ true → programFor sorts bytes ≡ onward (rawsFrom s count (drop 1 bytes)) (bodiesFrom apart s)
+          unfolding programBy
           program-counted e = simp (ne-eqb _ _ some, le-ltb _ _ short, sym counted, ne-eqb _ _ one, le-ltb _ _ few, sym sorted, sym t ∙ e)
 
 pub answer-refused : (s : Sort) (r : Judged) {f : Refusal} → (r .check ≡ check.Refused f) × (r .outline ≡ outlineOf One [])

@@ -30,7 +30,7 @@ use Rattle.rule.specs.declared.Sorts.{Sorts}
 use Rattle.rule.specs.declared.Sorts.the-variants.{Both, Only}
 use Rattle.rule.specs.Form.{AreBytes, encode, encodeFunctions, Accepted}
 use Rattle.rule.specs.Reading as reading
-use Rattle.rule.specs.Reading.{Parsed, got, unlessFault, paramKinds, resultKind, rawsFrom, sameKinds, mainFirst, headers, bodiesFrom, takes, programSort, programFor, checkFrom, programCheck}
+use Rattle.rule.specs.Reading.{Parsed, got, unlessFault, paramKinds, resultKind, rawsFrom, sameKinds, mainFirst, headers, bodiesFrom, takes, programSort, programBy, programFor, checkFrom, programCheck, apart}
 use Rattle.rule.proofs.Tests.{both, neither}
 use Rattle.rule.proofs.Parsing.{not-got, got-inv, refused-inv, Onward, by, onward-inv}
 use Rattle.rule.proofs.Expressions.{Heads, no-heads, one-head, place-below}
@@ -106,7 +106,7 @@ main-first s (one-head {f = f′} {h = h} is more) f e m =
 
 pub read-encoded : (bytes : List ℕ) (s : Sort) (P : Program) → Accepted bytes s P → (sorts : Sorts) → takes sorts s ≡ true
     → programFor sorts bytes ≡ got P []
-unfolding programFor encode
+unfolding programBy encode
 read-encoded bytes s P a sorts taken =
     let written = encodeFunctions s P in
     let size : length bytes ≡ suc (length written) = ap length (a .encoded) in
@@ -133,10 +133,10 @@ record Started (sorts : Sorts) (bytes : List ℕ) (P : Program) (rest : List ℕ
   short : length bytes ≤ mostBytes
   few : countIn (getD bytes 0 0) ≤ mostFunctions
   taken : takes sorts (programSort bytes) ≡ true
-  functions : Onward (rawsFrom (programSort bytes) (countIn (getD bytes 0 0)) (drop 1 bytes)) (bodiesFrom (programSort bytes)) P rest
+  functions : Onward (rawsFrom (programSort bytes) (countIn (getD bytes 0 0)) (drop 1 bytes)) (bodiesFrom apart (programSort bytes)) P rest
 
 started : (sorts : Sorts) (bytes : List ℕ) (P : Program) (rest : List ℕ) → programFor sorts bytes ≡ got P rest → Started sorts bytes P rest
-unfolding programFor
+unfolding programBy
 started sorts bytes P rest q =
     let b = getD bytes 0 0 in
     let s = programSort bytes in
@@ -150,12 +150,12 @@ started sorts bytes P rest q =
       short = ltb-false _ _ (long .1);
       few = ltb-false _ _ (many .1);
       taken = not-false _ (sort .1);
-      functions = onward-inv (rawsFrom s (countIn b) (drop 1 bytes)) (bodiesFrom s) P rest (count .1);
+      functions = onward-inv (rawsFrom s (countIn b) (drop 1 bytes)) (bodiesFrom apart s) P rest (count .1);
     }
 
 -- bytes whose functions were read, as many and of the sort that the first byte says
 accepted : (bytes : List ℕ) (s : Sort) (n : ℕ) (P : Program) (rest : List ℕ) → AreBytes bytes → (length bytes ≡ 0 → ⊥) → length bytes ≤ mostBytes
-    → countByte s n ≡ getD bytes 0 0 → n ≤ mostFunctions → Onward (rawsFrom s n (drop 1 bytes)) (bodiesFrom s) P rest
+    → countByte s n ≡ getD bytes 0 0 → n ≤ mostFunctions → Onward (rawsFrom s n (drop 1 bytes)) (bodiesFrom apart s) P rest
     → Accepted bytes s P × (rest ≡ [])
 unfolding encode
 accepted bytes s n P rest are filled short says few (by xs after p q) =
@@ -185,7 +185,7 @@ one-test-less false false false f f′ p P rest q = absurd (not-got q)
 
 pub read-both : (sorts : Sorts) (bytes : List ℕ) (P : Program) (rest : List ℕ) → programFor sorts bytes ≡ got P rest
     → programFor Both bytes ≡ got P rest
-unfolding programFor
+unfolding programBy
 read-both sorts bytes P rest q =
     let long = eqb (length bytes) 0 || ltb mostBytes (length bytes) in
     one-test-less long (countFault (getD bytes 0 0)) (takes sorts (programSort bytes)) _ _ _ P rest q

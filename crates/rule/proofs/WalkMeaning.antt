@@ -1,8 +1,9 @@
 -- The walk over positions of a body comes to what the reading of its bytes says:
 --   Framed                       a frame that fits the headers of a program of a sort
---   Step                         a walk and a reading that agree: the bytes after what was read are those at the place after it, or
+--   Step                         a walk and a reading that agree: the bytes after what was read are those at the position after it, or
 --                                both are refused
 --   kind-number, meets-allows    kinds and demands as numbers
+--   demand-in, refusal-in        the demand and the refusal of a place, by its number
 --   at-most-four                 a number of parameters that is not refused
 --   ownOf                        the kinds of a frame's own parameters
 --   expr-step                    expressions
@@ -17,9 +18,9 @@ use native.Mathlib.Omega.{arith}
 use lib.Dec.{ltb, leb, eqb}
 use lib.ListN.{length, getElem?, getD, drop, drop-of-length-le}
 use lib.Seq.{drop-cons}
-use borrow.Author.Tests.{lt-ltb, le-leb, lt-leb, ltb-true, ltb-false, leb-true, leb-false}
+use borrow.Author.Tests.{lt-ltb, le-ltb, le-leb, lt-leb, ltb-true, ltb-false, leb-true, leb-false}
 use Rattle.refusal.specs.declared.Refusal.{Refusal}
-use Rattle.refusal.specs.declared.Refusal.the-variants.{BodyEnds, TooDeep, ListConstructor, UnknownByte, WrongKind}
+use Rattle.refusal.specs.declared.Refusal.the-variants.{BodyEnds, TooDeep, ListConstructor, UnknownByte}
 use Rattle.trace.specs.{bitOf}
 use Rattle.semantics.specs.declared.Contact.the-variants.{Ram, Guard}
 use Rattle.semantics.specs.declared.Sort.{Sort}
@@ -31,8 +32,9 @@ use Rattle.syntax.specs.declared.Header.{Header}
 use Rattle.syntax.specs.Limits.{mostParams, mostBytes}
 use Rattle.syntax.specs.Bytes.{nodeOf}
 use Rattle.syntax.specs.Kinds.{truthKind, kindNumber, kindBy}
-use Rattle.rule.specs.Reading.{Parsed, got, refused, onward, unlessFault, kindAt, kindsFrom, resultKind, demanded, Reader, argsFrom, guardEmptyFrom, paramFrom, callFrom, opFrom, ifFrom, nodeFrom, exprFrom}
-use Rattle.rule.specs.Walk.{demandNumber, meets, kindOf, atMostFour, firstStop, stop, ended, whereMet, leafWalked, paramWalked, guardEmptyWalked, Frame, contactsOf}
+use Rattle.rule.specs.Reading.{Parsed, got, refused, onward, unlessFault, kindAt, kindsFrom, resultKind, Fault, inResult, inOperand, inArgument, Place, conditionPlace, operandPlace, argumentPlace}
+use Rattle.rule.specs.Reading.{apart, demanded, Reader, argsFrom, guardEmptyFrom, paramFrom, callFrom, opFrom, ifFrom, nodeFrom, exprFrom}
+use Rattle.rule.specs.Walk.{demandNumber, operandPart, argumentPart, faultPart, placeNumber, demandIn, refusalIn, meets, wrongKind, kindOf, atMostFour, firstStop, stop, ended, whereMet, leafWalked, paramWalked, guardEmptyWalked, Frame, contactsOf}
 use Rattle.rule.specs.Walk.{argsWalked, armsWalked, callWalked, readWalked, tailWalked, nodeWalked, checkAt}
 use Rattle.rule.proofs.Expressions.{place-below}
 use Rattle.rule.proofs.Walking.{check-stays}
@@ -73,6 +75,30 @@ truth-demanded (only truth) = refl
 truth-demanded (only (list Ram)) = refl
 truth-demanded (only (list Guard)) = refl
 truth-demanded anyList = refl
+
+-- ---- Places as numbers
+
+demand-small : (δ : Demand) → demandNumber δ < operandPart
+demand-small (only truth) = omega arith
+demand-small (only (list Ram)) = omega arith
+demand-small (only (list Guard)) = omega arith
+demand-small anyList = omega arith
+
+pub demand-in : (π : Place) → demandIn (placeNumber π) ≡ demandNumber (π .demand)
+demand-in π = go (π .fault) (demandNumber (π .demand)) (demand-small (π .demand))
+  where
+    go : (φ : Fault) (n : ℕ) → n < operandPart → demandIn (faultPart φ + n) ≡ n
+    go inResult n h = omega arith
+    go inOperand n h = omega arith
+    go inArgument n h = omega arith
+
+pub refusal-in : (π : Place) → refusalIn (placeNumber π) ≡ apart (π .fault)
+refusal-in π = go (π .fault) (demandNumber (π .demand)) (demand-small (π .demand))
+  where
+    go : (φ : Fault) (n : ℕ) → n < operandPart → refusalIn (faultPart φ + n) ≡ apart φ
+    go inResult n h = simp (lt-ltb (0 + n) operandPart (omega arith))
+    go inOperand n h = simp (le-ltb (operandPart + n) operandPart (omega arith), lt-ltb (operandPart + n) argumentPart (omega arith))
+    go inArgument n h = simp (le-ltb (argumentPart + n) operandPart (omega arith), le-ltb (argumentPart + n) argumentPart (omega arith))
 
 -- the kind of a parameter that is there
 pub kind-there : (k g i n j : ℕ) → j < n → getElem? (kindsFrom k g i n) j ≡ some (kindAt k g (i + j))
@@ -116,31 +142,33 @@ module _ {body : List ℕ} where
   step-part f (stopped r) = stopped r
 
   -- where a test has to hold, and where it may not
-  step-allowed : {A : Type 0} {w : ℕ} {p : Parsed A} (t : Bool) → Step body w p
-      → Step body (cond t w (stop WrongKind)) (unlessFault (not t) WrongKind p)
-  step-allowed true s = s
-  step-allowed false s = stopped WrongKind
+  step-allowed : {A : Type 0} {w : ℕ} {p : Parsed A} (t : Bool) (f : Refusal) → Step body w p
+      → Step body (cond t w (stop f)) (unlessFault (not t) f p)
+  step-allowed true f s = s
+  step-allowed false f s = stopped f
 
-  step-banned : {A : Type 0} {w : ℕ} {p : Parsed A} (t : Bool) → Step body w p
-      → Step body (cond t (stop WrongKind) w) (unlessFault (not (not t)) WrongKind p)
-  step-banned true s = stopped WrongKind
-  step-banned false s = s
+  step-banned : {A : Type 0} {w : ℕ} {p : Parsed A} (t : Bool) (f : Refusal) → Step body w p
+      → Step body (cond t (stop f) w) (unlessFault (not (not t)) f p)
+  step-banned true f s = stopped f
+  step-banned false f s = s
 
-  step-demanded : {A : Type 0} {w : ℕ} {p : Parsed A} (δ : Demand) (κ : Kind) → Step body w p
-      → Step body (whereMet (demandNumber δ) (kindNumber κ) w) (demanded δ κ p)
-  step-demanded δ κ s = rw (meets-allows δ κ) (step-allowed (allows δ κ) s)
+  step-demanded : {A : Type 0} {w : ℕ} {p : Parsed A} (π : Place) (κ : Kind) → Step body w p
+      → Step body (whereMet (placeNumber π) (kindNumber κ) w) (demanded apart π κ p)
+  unfolding wrongKind
+  step-demanded π κ s =
+      rw (demand-in π, refusal-in π, meets-allows (π .demand) κ) (step-allowed (allows (π .demand) κ) (apart (π .fault)) s)
 
   -- a leaf
-  leaf-step : {A : Type 0} (δ : Demand) (κ : Kind) (a : A) (at : ℕ) → at ≤ length body
-      → Step body (leafWalked (demandNumber δ) (kindNumber κ) at) (demanded δ κ (got a (drop at body)))
+  leaf-step : {A : Type 0} (π : Place) (κ : Kind) (a : A) (at : ℕ) → at ≤ length body
+      → Step body (leafWalked (placeNumber π) (kindNumber κ) at) (demanded apart π κ (got a (drop at body)))
   unfolding leafWalked
-  leaf-step δ κ a at h = step-demanded δ κ (went a at h)
+  leaf-step π κ a at h = step-demanded π κ (went a at h)
 
-  guard-empty-step : (s : Sort) (δ : Demand) (at : ℕ) → at ≤ length body
-      → Step body (guardEmptyWalked (contactsOf s) (demandNumber δ) at) (guardEmptyFrom s δ (drop at body))
+  guard-empty-step : (s : Sort) (π : Place) (at : ℕ) → at ≤ length body
+      → Step body (guardEmptyWalked (contactsOf s) (placeNumber π) at) (guardEmptyFrom apart s π (drop at body))
   unfolding guardEmptyWalked
-  guard-empty-step One δ at h = stopped UnknownByte
-  guard-empty-step Two δ at h = leaf-step δ (list Guard) _ at h
+  guard-empty-step One π at h = stopped UnknownByte
+  guard-empty-step Two π at h = leaf-step π (list Guard) _ at h
 
 -- ---- Nodes, over a walk and a reading of operands that agree
 
@@ -151,15 +179,15 @@ ownOf F = kindsFrom (F .ownKinds) (F .ownGuard) 0 (F .ownParams)
 module _ (s : Sort) (H : List Header) (F : Frame) (fits : Framed s H F) where
   module _ (walk : ℕ → ℕ → ℕ) (read : Reader)
       (stays : (n : ℕ) (f : Refusal) → walk n (stop f) ≡ stop f)
-      (agree : (δ : Demand) (at : ℕ) → at ≤ length (F .body) → Step (F .body) (walk (demandNumber δ) at) (read δ (drop at (F .body)))) where
+      (agree : (π : Place) (at : ℕ) → at ≤ length (F .body) → Step (F .body) (walk (placeNumber π) at) (read π (drop at (F .body)))) where
     -- the place of an argument demands the kind that its bits say
-    kind-step : (k g i at : ℕ) → at ≤ length (F .body) → Step (F .body) (walk (kindOf k g i) at) (read (only (kindAt k g i)) (drop at (F .body)))
-    kind-step k g i at h = rw (kind-number k g i) at (agree (only (kindAt k g i)) at h)
+    kind-step : (k g i at : ℕ) → at ≤ length (F .body) → Step (F .body) (walk (argumentPart + kindOf k g i) at) (read (argumentPlace (kindAt k g i)) (drop at (F .body)))
+    kind-step k g i at h = rw (kind-number k g i) at (agree (argumentPlace (kindAt k g i)) at h)
 
     args-stay : (k g n i : ℕ) (f : Refusal) → argsWalked walk k g n i (stop f) ≡ stop f
     unfolding argsWalked
     args-stay k g zero i f = refl
-    args-stay k g (suc n) i f = rw (stays (kindOf k g i) f) (args-stay k g n (i + 1) f)
+    args-stay k g (suc n) i f = rw (stays (argumentPart + kindOf k g i) f) (args-stay k g n (i + 1) f)
 
     args-step : (k g n i at : ℕ) → at ≤ length (F .body)
         → Step (F .body) (argsWalked walk k g n i at) (argsFrom read (kindsFrom k g i n) (drop at (F .body)))
@@ -169,87 +197,91 @@ module _ (s : Sort) (H : List Header) (F : Frame) (fits : Framed s H F) where
         step-onward (argsWalked walk k g n (i + 1)) _ (args-stay k g n (i + 1)) (kind-step k g i at h)
         (λ e to l. rw (add-one i) (step-part (arg e) (args-step k g n (suc i) to l)))
 
-    param-step : (δ : Demand) (i at : ℕ) → at ≤ length (F .body)
-        → Step (F .body) (paramWalked (F .ownParams) (F .ownKinds) (F .ownGuard) (demandNumber δ) i at)
-        (paramFrom (getElem? (ownOf F) i) δ i (drop at (F .body)))
+    param-step : (π : Place) (i at : ℕ) → at ≤ length (F .body)
+        → Step (F .body) (paramWalked (F .ownParams) (F .ownKinds) (F .ownGuard) (placeNumber π) i at)
+        (paramFrom apart (getElem? (ownOf F) i) π i (drop at (F .body)))
     unfolding paramWalked
-    param-step δ i at h = go (ltb i (F .ownParams)) refl
+    param-step π i at h = go (ltb i (F .ownParams)) refl
       where
         go : (t : Bool) → ltb i (F .ownParams) ≡ t
-            → Step (F .body) (cond t (leafWalked (demandNumber δ) (kindOf (F .ownKinds) (F .ownGuard) i) at) (stop UnknownByte))
-            (paramFrom (getElem? (ownOf F) i) δ i (drop at (F .body)))
+            → Step (F .body) (cond t (leafWalked (placeNumber π) (kindOf (F .ownKinds) (F .ownGuard) i) at) (stop UnknownByte))
+            (paramFrom apart (getElem? (ownOf F) i) π i (drop at (F .body)))
         go true e =
             rw (kind-there (F .ownKinds) (F .ownGuard) 0 (F .ownParams) i (ltb-true _ _ e), zero-add i)
             (rw (kind-number (F .ownKinds) (F .ownGuard) i) at
-            (leaf-step {body = F .body} δ (kindAt (F .ownKinds) (F .ownGuard) i) (param i) at h))
+            (leaf-step {body = F .body} π (kindAt (F .ownKinds) (F .ownGuard) i) (param i) at h))
         go false e = rw (kind-absent (F .ownKinds) (F .ownGuard) 0 (F .ownParams) i (ltb-false _ _ e)) (stopped UnknownByte)
 
-    call-step : (δ : Demand) (g at : ℕ) → at ≤ length (F .body)
-        → Step (F .body) (callWalked F walk (demandNumber δ) at g) (callFrom (getElem? H g) read δ g (drop at (F .body)))
-    call-step δ g at h = go (getElem? H g) refl
+    call-step : (π : Place) (g at : ℕ) → at ≤ length (F .body)
+        → Step (F .body) (callWalked F walk (placeNumber π) at g) (callFrom apart (getElem? H g) read π g (drop at (F .body)))
+    call-step π g at h = go (getElem? H g) refl
       where
         go : (found : Option Header) → getElem? H g ≡ found
-            → Step (F .body) (callWalked F walk (demandNumber δ) at g) (callFrom found read δ g (drop at (F .body)))
+            → Step (F .body) (callWalked F walk (placeNumber π) at g) (callFrom apart found read π g (drop at (F .body)))
         go none e = rw (fits .count, le-leb _ _ (absent-above H g e)) (stopped UnknownByte)
         go (some x) e =
             let head = fits .heads g x e in
             rw (fits .count, lt-leb _ _ (place-below H g x e), head .0, head .1, head .2, at-most-four (x .params) (head .3))
             (rw (kind-number (x .kinds) (x .guard) 4) at
-            (step-demanded δ (resultKind x) (step-part (call g) (args-step (x .kinds) (x .guard) (x .params) 0 at h))))
+            (step-demanded π (resultKind x) (step-part (call g) (args-step (x .kinds) (x .guard) (x .params) 0 at h))))
 
-    if-step : (δ : Demand) (at : ℕ) → at ≤ length (F .body) → Step (F .body) (armsWalked walk (demandNumber δ) at) (ifFrom read δ (drop at (F .body)))
-    if-step δ at h =
-        let n = demandNumber δ in
-        step-onward (λ w. walk n (walk n w)) _ (λ f. ap (walk n) (stays n f) ∙ stays n f) (agree (only truth) at h) (λ c to l.
-        step-onward (walk n) _ (stays n) (agree δ to l) (λ a to′ l′.
-        step-part (ifte c a) (agree δ to′ l′)))
+    if-step : (π : Place) (at : ℕ) → at ≤ length (F .body) → Step (F .body) (armsWalked walk (placeNumber π) at) (ifFrom read π (drop at (F .body)))
+    if-step π at h =
+        let n = placeNumber π in
+        step-onward (λ w. walk n (walk n w)) _ (λ f. ap (walk n) (stays n f) ∙ stays n f) (agree conditionPlace at h) (λ c to l.
+        step-onward (walk n) _ (stays n) (agree π to l) (λ a to′ l′.
+        step-part (ifte c a) (agree π to′ l′)))
 
-    read-step : (p : Op) (δ : Demand) (at : ℕ) → at ≤ length (F .body)
-        → Step (F .body) (readWalked walk (demandNumber δ) at)
-        (demanded δ truth (onward (read anyList (drop at (F .body))) (λ e rest. got (op p e) rest)))
-    read-step p δ at h = step-demanded δ truth (step-part (op p) (agree anyList at h))
+    -- hd and null demand the same of their operand
+    read-step : (p : Op) (π : Place) (at : ℕ) → at ≤ length (F .body)
+        → Step (F .body) (readWalked walk (placeNumber π) at)
+        (demanded apart π truth (onward (read (operandPlace hd π) (drop at (F .body))) (λ e rest. got (op p e) rest)))
+    read-step p π at h = step-demanded π truth (step-part (op p) (agree (operandPlace hd π) at h))
 
-    tail-step : (δ : Demand) (at : ℕ) → at ≤ length (F .body)
-        → Step (F .body) (tailWalked walk (demandNumber δ) at) (opFrom tl read δ (drop at (F .body)))
-    tail-step δ at h = rw (truth-demanded δ) (step-banned (allows δ truth) (step-part (op tl) (agree δ at h)))
+    tail-step : (π : Place) (at : ℕ) → at ≤ length (F .body)
+        → Step (F .body) (tailWalked walk (placeNumber π) at) (opFrom apart tl read π (drop at (F .body)))
+    unfolding wrongKind
+    tail-step π at h =
+        rw (demand-in π, refusal-in π, truth-demanded (π .demand))
+        (step-banned (allows (π .demand) truth) (apart (π .fault)) (step-part (op tl) (agree (operandPlace tl π) at h)))
 
-    node-step : (δ : Demand) (at : ℕ) → at ≤ length (F .body) → (n : Node)
-        → Step (F .body) (nodeWalked F walk (demandNumber δ) at n) (nodeFrom s H (ownOf F) read δ n (drop at (F .body)))
-    node-step δ at h node.False = leaf-step δ truth _ at h
-    node-step δ at h node.True = leaf-step δ truth _ at h
-    node-step δ at h node.Empty = leaf-step δ (list Ram) _ at h
-    node-step δ at h node.EmptyGuard = rw (fits .contacts) (guard-empty-step s δ at h)
-    node-step δ at h (node.Param i) = param-step δ i at h
-    node-step δ at h node.Head = read-step hd δ at h
-    node-step δ at h node.Tail = tail-step δ at h
-    node-step δ at h node.Null = read-step null δ at h
-    node-step δ at h node.If = if-step δ at h
-    node-step δ at h node.Cons = stopped ListConstructor
-    node-step δ at h (node.Call g) = call-step δ g at h
-    node-step δ at h node.Unknown = stopped UnknownByte
+    node-step : (π : Place) (at : ℕ) → at ≤ length (F .body) → (n : Node)
+        → Step (F .body) (nodeWalked F walk (placeNumber π) at n) (nodeFrom apart s H (ownOf F) read π n (drop at (F .body)))
+    node-step π at h node.False = leaf-step π truth _ at h
+    node-step π at h node.True = leaf-step π truth _ at h
+    node-step π at h node.Empty = leaf-step π (list Ram) _ at h
+    node-step π at h node.EmptyGuard = rw (fits .contacts) (guard-empty-step s π at h)
+    node-step π at h (node.Param i) = param-step π i at h
+    node-step π at h node.Head = read-step hd π at h
+    node-step π at h node.Tail = tail-step π at h
+    node-step π at h node.Null = read-step null π at h
+    node-step π at h node.If = if-step π at h
+    node-step π at h node.Cons = stopped ListConstructor
+    node-step π at h (node.Call g) = call-step π g at h
+    node-step π at h node.Unknown = stopped UnknownByte
 
-  pub expr-step : length (F .body) ≤ mostBytes → (d : ℕ) (δ : Demand) (at : ℕ) → at ≤ length (F .body)
-      → Step (F .body) (checkAt F d (demandNumber δ) at) (exprFrom s H (ownOf F) d δ (drop at (F .body)))
+  pub expr-step : length (F .body) ≤ mostBytes → (d : ℕ) (π : Place) (at : ℕ) → at ≤ length (F .body)
+      → Step (F .body) (checkAt F d (placeNumber π) at) (exprFrom apart s H (ownOf F) d π (drop at (F .body)))
   unfolding checkAt exprFrom
-  expr-step short zero δ at h = go (leb (length (F .body)) at) refl
+  expr-step short zero π at h = go (leb (length (F .body)) at) refl
     where
       go : (t : Bool) → leb (length (F .body)) at ≡ t
-          → Step (F .body) (cond t (ended at) (stop TooDeep)) (exprFrom s H (ownOf F) zero δ (drop at (F .body)))
+          → Step (F .body) (cond t (ended at) (stop TooDeep)) (exprFrom apart s H (ownOf F) zero π (drop at (F .body)))
       go true e = rw (lt-ltb at firstStop (omega arith), drop-of-length-le (F .body) (leb-true _ _ e)) (stopped BodyEnds)
       go false e = rw (drop-cons (F .body) at 0 (leb-false _ _ e)) (stopped TooDeep)
-  expr-step short (suc d) δ at h = go (leb (length (F .body)) at) refl (λ δ′ to l. expr-step short d δ′ to l)
+  expr-step short (suc d) π at h = go (leb (length (F .body)) at) refl (λ π′ to l. expr-step short d π′ to l)
     where
       Deeper : Type 0
       Deeper =
-          (δ′ : Demand) (to : ℕ) → to ≤ length (F .body)
-          → Step (F .body) (checkAt F d (demandNumber δ′) to) (exprFrom s H (ownOf F) d δ′ (drop to (F .body)))
+          (π′ : Place) (to : ℕ) → to ≤ length (F .body)
+          → Step (F .body) (checkAt F d (placeNumber π′) to) (exprFrom apart s H (ownOf F) d π′ (drop to (F .body)))
 
       go : (t : Bool) → leb (length (F .body)) at ≡ t → Deeper
-          → Step (F .body) (cond t (ended at) (nodeWalked F (checkAt F d) (demandNumber δ) (at + 1) (nodeOf (getD (F .body) at 0))))
-          (exprFrom s H (ownOf F) (suc d) δ (drop at (F .body)))
+          → Step (F .body) (cond t (ended at) (nodeWalked F (checkAt F d) (placeNumber π) (at + 1) (nodeOf (getD (F .body) at 0))))
+          (exprFrom apart s H (ownOf F) (suc d) π (drop at (F .body)))
       go true e deeper = rw (lt-ltb at firstStop (omega arith), drop-of-length-le (F .body) (leb-true _ _ e)) (stopped BodyEnds)
       go false e deeper =
           let within : suc at ≤ length (F .body) = leb-false _ _ e in
           rw (drop-cons (F .body) at 0 within, add-one at)
-          (node-step (checkAt F d) (λ δ′ rest. exprFrom s H (ownOf F) d δ′ rest) (check-stays F short d) deeper δ (suc at)
+          (node-step (checkAt F d) (λ π′ rest. exprFrom apart s H (ownOf F) d π′ rest) (check-stays F short d) deeper π (suc at)
           within (nodeOf (getD (F .body) at 0)))

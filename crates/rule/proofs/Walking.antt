@@ -1,5 +1,5 @@
 -- Laws of the mirror, one for each way through the code:
---   stop-above, check-stays                 a refusal is above all places, and a walk from it leaves it
+--   stop-above, check-stays                 a refusal is above all positions, and a walk from it leaves it
 --   stop-back                               the refusal is known by its number
 --   params-in, header-in                    the headers in an array
 --   check-end, check-deep, check-node       an expression: no byte, no depth left, a node
@@ -18,7 +18,7 @@ use lib.ListN.{length, getD, take, drop}
 use lib.Seq.{getD-take, getD-drop}
 use borrow.Author.Tests.{le-leb, lt-leb, lt-ltb, le-ltb, eq-eqb, ne-eqb}
 use Rattle.refusal.specs.declared.Refusal.{Refusal}
-use Rattle.refusal.specs.declared.Refusal.the-variants.{TooDeep, UnknownByte, WrongKind}
+use Rattle.refusal.specs.declared.Refusal.the-variants.{TooDeep, UnknownByte}
 use Rattle.refusal.specs.declared.Check.the-variants as check
 use Rattle.refusal.specs.{numberOf, checkOf}
 use Rattle.refusal.proofs.Numbers.{refusal-back}
@@ -26,7 +26,7 @@ use Rattle.syntax.specs.declared.Node.{Node}
 use Rattle.syntax.specs.Limits.{mostFunctions, mostBytes}
 use Rattle.syntax.specs.Bytes.{nodeOf}
 use Rattle.syntax.specs.Kinds.{truthKind}
-use Rattle.rule.specs.Walk.{anyListDemand, meets, kindOf, Frame, atMostFour, firstStop, stop, ended, leafWalked, paramWalked, argsWalked, nodeWalked}
+use Rattle.rule.specs.Walk.{anyListDemand, operandPart, argumentPart, demandIn, meets, wrongKind, kindOf, Frame, atMostFour, firstStop, stop, ended, leafWalked, paramWalked, argsWalked, nodeWalked}
 use Rattle.rule.specs.Walk.{checkAt, readAt, tailAt, callWalkedAt}
 
 pub stop-above : (f : Refusal) → firstStop ≤ stop f
@@ -46,72 +46,73 @@ module _ (heads : List ℕ) (g : ℕ) (h : g < mostFunctions) where
   pub header-in : (place : ℕ) → getD heads (place + g) 0 ≡ getD (take mostFunctions (drop place heads)) g 0
   header-in place = sym (getD-take mostFunctions (drop place heads) g 0 h ∙ getD-drop place heads g 0)
 
-module _ (F : Frame) (d demand at : ℕ) where
-  pub check-end : length (F .body) ≤ at → checkAt F d demand at ≡ ended at
+module _ (F : Frame) (d place at : ℕ) where
+  pub check-end : length (F .body) ≤ at → checkAt F d place at ≡ ended at
   unfolding checkAt
   check-end h = go d
     where
-      go : (d : ℕ) → checkAt F d demand at ≡ ended at
+      go : (d : ℕ) → checkAt F d place at ≡ ended at
       go zero = simp (le-leb _ _ h)
       go (suc d) = simp (le-leb _ _ h)
 
-  pub check-deep : at < length (F .body) → d ≡ 0 → checkAt F d demand at ≡ stop TooDeep
+  pub check-deep : at < length (F .body) → d ≡ 0 → checkAt F d place at ≡ stop TooDeep
   unfolding checkAt
   check-deep h e = simp (e, lt-leb _ _ h)
 
   pub check-node : at < length (F .body) → (d ≡ 0 → ⊥) → {k : Node} → nodeOf (getD (F .body) at 0) ≡ k
-      → checkAt F d demand at ≡ nodeWalked F (checkAt F (d - 1)) demand (at + 1) k
+      → checkAt F d place at ≡ nodeWalked F (checkAt F (d - 1)) place (at + 1) k
   unfolding checkAt
   check-node h e {k} q = go d e
     where
-      go : (d : ℕ) → (d ≡ 0 → ⊥) → checkAt F d demand at ≡ nodeWalked F (checkAt F (d - 1)) demand (at + 1) k
+      go : (d : ℕ) → (d ≡ 0 → ⊥) → checkAt F d place at ≡ nodeWalked F (checkAt F (d - 1)) place (at + 1) k
       go zero e = absurd (e refl)
       go (suc d) e = simp (lt-leb _ _ h, q, sub-one)
 
-  module _ {b : Bool} (e : b ≡ meets demand truthKind) where
-    pub read-of : b ≡ true → readAt F d demand at ≡ checkAt F d anyListDemand at
+  module _ {b : Bool} (e : b ≡ meets (demandIn place) truthKind) where
+    pub read-of : b ≡ true → {w : ℕ} → w ≡ checkAt F d (operandPart + anyListDemand) at → w ≡ readAt F d place at
     unfolding readAt
-    read-of q = simp (sym e ∙ q)
+    read-of q c = c ∙ simp (sym e ∙ q)
 
-    pub read-not : b ≡ false → readAt F d demand at ≡ stop WrongKind
+    pub read-not : b ≡ false → readAt F d place at ≡ wrongKind place
     unfolding readAt
     read-not q = simp (sym e ∙ q)
 
-  pub tail-of : (demand ≡ truthKind → ⊥) → tailAt F d demand at ≡ checkAt F d demand at
-  unfolding tailAt
-  tail-of h = simp (ne-eqb _ _ h)
+  module _ {demand : ℕ} (e : demand ≡ demandIn place) where
+    pub tail-of : (demand ≡ truthKind → ⊥) → {w : ℕ} → w ≡ checkAt F d (operandPart + demand) at → w ≡ tailAt F d place at
+    unfolding tailAt
+    tail-of h c = c ∙ simp (sym e, ne-eqb _ _ h)
 
-  pub tail-not : demand ≡ truthKind → tailAt F d demand at ≡ stop WrongKind
-  unfolding tailAt
-  tail-not h = simp (eq-eqb _ _ h)
+    pub tail-not : demand ≡ truthKind → tailAt F d place at ≡ wrongKind place
+    unfolding tailAt
+    tail-not h = simp (sym e, eq-eqb _ _ h)
 
   module _ (f : ℕ) where
-    pub call-none : F .functions ≤ f → callWalkedAt F d demand at f ≡ stop UnknownByte
+    pub call-none : F .functions ≤ f → callWalkedAt F d place at f ≡ stop UnknownByte
     unfolding callWalkedAt
     call-none h = simp (le-leb _ _ h)
 
     module _ {kinds guard : ℕ} (k : kinds ≡ getD (F .kinds) f 0) (g : guard ≡ getD (F .guards) f 0) {result : ℕ} {b : Bool} (h : f < F .functions)
-        (e : result ≡ kindOf kinds guard 4) (q : b ≡ meets demand result) where
-      pub call-not : b ≡ false → callWalkedAt F d demand at f ≡ stop WrongKind
+        (e : result ≡ kindOf kinds guard 4) (q : b ≡ meets (demandIn place) result) where
+      pub call-not : b ≡ false → callWalkedAt F d place at f ≡ wrongKind place
       unfolding callWalkedAt
       call-not z = simp (lt-leb _ _ h, sym k, sym g, sym e, sym q ∙ z)
 
       pub call-args : b ≡ true → {left : ℕ} → left ≡ atMostFour (getD (F .params) f 0)
-          → callWalkedAt F d demand at f ≡ argsWalked (checkAt F d) kinds guard left 0 at
+          → callWalkedAt F d place at f ≡ argsWalked (checkAt F d) kinds guard left 0 at
       unfolding callWalkedAt
       call-args z c = simp (lt-leb _ _ h, sym k, sym g, sym e, sym q ∙ z, sym c)
 
 -- a walk from a refusal on leaves it
-pub check-stays : (F : Frame) → length (F .body) ≤ mostBytes → (d demand : ℕ) (f : Refusal) → checkAt F d demand (stop f) ≡ stop f
-check-stays F short d demand f = check-end F d demand (stop f) (omega (arith, stop-above f)) ∙ simp (le-ltb _ _ (stop-above f))
+pub check-stays : (F : Frame) → length (F .body) ≤ mostBytes → (d place : ℕ) (f : Refusal) → checkAt F d place (stop f) ≡ stop f
+check-stays F short d place f = check-end F d place (stop f) (omega (arith, stop-above f)) ∙ simp (le-ltb _ _ (stop-above f))
 
-module _ (count kinds guard demand i next : ℕ) where
-  pub param-there : {κ w : ℕ} → i < count → κ ≡ kindOf kinds guard i → w ≡ leafWalked demand κ next
-      → w ≡ paramWalked count kinds guard demand i next
+module _ (count kinds guard place i next : ℕ) where
+  pub param-there : {κ w : ℕ} → i < count → κ ≡ kindOf kinds guard i → w ≡ leafWalked place κ next
+      → w ≡ paramWalked count kinds guard place i next
   unfolding paramWalked
   param-there h e q = q ∙ simp (lt-ltb _ _ h, e)
 
-  pub param-absent : count ≤ i → stop UnknownByte ≡ paramWalked count kinds guard demand i next
+  pub param-absent : count ≤ i → stop UnknownByte ≡ paramWalked count kinds guard place i next
   unfolding paramWalked
   param-absent h = simp (le-ltb _ _ h)
 
@@ -128,14 +129,14 @@ module _ {walk : ℕ → ℕ → ℕ} {ks gs left at i m : ℕ} (u : Along walk 
   unfolding argsWalked
   along-end h = let z : left - i ≡ 0 = omega arith in sym (u .rest) ∙ ap (λ (k : ℕ). argsWalked walk ks gs k i m) z
 
-  pub along-more : i < left → {κ n : ℕ} → κ ≡ kindOf ks gs i → n ≡ walk κ m → Along walk ks gs left at (i + 1) n
+  pub along-more : i < left → {κ n : ℕ} → κ ≡ kindOf ks gs i → n ≡ walk (argumentPart + κ) m → Along walk ks gs left at (i + 1) n
   unfolding argsWalked
   along-more h {κ} {n} e q =
       let z : left - i ≡ suc (left - (i + 1)) = omega arith in
       record {
         below = omega arith;
         rest =
-            ap (argsWalked walk ks gs (left - (i + 1)) (i + 1)) (q ∙ ap (λ (k : ℕ). walk k m) e)
+            ap (argsWalked walk ks gs (left - (i + 1)) (i + 1)) (q ∙ ap (λ (k : ℕ). walk (argumentPart + k) m) e)
             ∙ ap (λ (k : ℕ). argsWalked walk ks gs k i m) (sym z)
             ∙ u .rest;
       }

@@ -1,13 +1,13 @@
--- A mirror of the code: expressions checked by positions in a body, with kinds as numbers; functions by their places.
--- What a walk comes to is one number: a place of the body, or a refusal, which is above all places.
+-- A mirror of the code: expressions checked by positions in a body, with kinds and places as numbers; functions by their places.
+-- What a walk comes to is one number: a position in the body, or a refusal, which is above all positions.
 -- No reader need believe it: proofs/ shows that it comes to what Reading says.
-use Prim.Native.Nat.{ℕ, zero, suc, _+_, _-_, _<_, _≤_}
+use Prim.Native.Nat.{ℕ, zero, suc, _+_, _-_, _%_, _<_, _≤_}
 use mathlib.Core.Bool.{Bool, not, _&&_, _||_, cond}
 use mathlib.Core.List.{List, [], _∷_, map}
 use lib.Dec.{ltb, leb, eqb}
 use lib.ListN.{length, getD, take, drop}
 use Rattle.refusal.specs.declared.Refusal.{Refusal}
-use Rattle.refusal.specs.declared.Refusal.the-variants.{BodyEnds, TooDeep, ListConstructor, UnknownByte, WrongKind, BytesAfterExpression}
+use Rattle.refusal.specs.declared.Refusal.the-variants.{BodyEnds, TooDeep, ListConstructor, UnknownByte, WrongKind, OperandKind, ArgumentKind, BytesAfterExpression}
 use Rattle.refusal.specs.declared.Check.{Check}
 use Rattle.refusal.specs.declared.Check.the-variants as check
 use Rattle.refusal.specs.{numberOf, checkOf, _then_}
@@ -23,7 +23,7 @@ use Rattle.syntax.specs.Limits.{mostFunctions, mostParams, mostDepth, mostBytes
 use Rattle.rule.specs.Form.{padded}
 use Rattle.syntax.specs.Bytes.{headerBytes, nodeOf}
 use Rattle.syntax.specs.Kinds.{truthKind, ramKind, guardKind, kindNumber, kindBy}
-use Rattle.rule.specs.Reading.{Parsed, got, refused, Raw}
+use Rattle.rule.specs.Reading.{Parsed, got, refused, Raw, Fault, inResult, inOperand, inArgument, Place}
 use Rattle.rule.specs.Outline.{outlineOf}
 
 -- what a place demands as a number: that of a kind, or this one for a list of either contact
@@ -34,7 +34,33 @@ abbrev pub demandNumber : Demand → ℕ
 demandNumber (only κ) = kindNumber κ
 demandNumber anyList = anyListDemand
 
--- whether a node of a kind may stand there
+-- what a place adds to the number of its demand: which fault a node of another kind is there
+abbrev pub resultPart : ℕ
+resultPart = 0
+
+abbrev pub operandPart : ℕ
+operandPart = 4
+
+abbrev pub argumentPart : ℕ
+argumentPart = 8
+
+abbrev pub faultPart : Fault → ℕ
+faultPart inResult = resultPart
+faultPart inOperand = operandPart
+faultPart inArgument = argumentPart
+
+-- a place as one number
+abbrev pub placeNumber : Place → ℕ
+placeNumber π = faultPart (π .fault) + demandNumber (π .demand)
+
+-- the demand and the refusal that such a number says
+abbrev pub demandIn : ℕ → ℕ
+demandIn place = place % operandPart
+
+abbrev pub refusalIn : ℕ → Refusal
+refusalIn place = cond (ltb place operandPart) WrongKind (cond (ltb place argumentPart) OperandKind ArgumentKind)
+
+-- whether a node of a kind may stand where there is a demand
 abbrev pub meets : ℕ → ℕ → Bool
 meets demand kind = eqb demand kind || (eqb demand anyListDemand && not (eqb kind truthKind))
 
@@ -56,19 +82,23 @@ stop f = firstStop + numberOf f
 abbrev pub ended : ℕ → ℕ
 ended at = cond (ltb at firstStop) (stop BodyEnds) at
 
+-- what a node of the wrong kind comes to
+unfoldable pub wrongKind : ℕ → ℕ
+wrongKind place = stop (refusalIn place)
+
 -- what comes of a node of a kind, where it meets the demand of its place
 abbrev pub whereMet : ℕ → ℕ → ℕ → ℕ
-whereMet demand kind w = cond (meets demand kind) w (stop WrongKind)
+whereMet place kind w = cond (meets (demandIn place) kind) w (wrongKind place)
 
 unfoldable pub leafWalked : ℕ → ℕ → ℕ → ℕ
-leafWalked demand kind next = whereMet demand kind next
+leafWalked place kind next = whereMet place kind next
 
 unfoldable pub paramWalked : ℕ → ℕ → ℕ → ℕ → ℕ → ℕ → ℕ
-paramWalked count kinds guard demand i next = cond (ltb i count) (leafWalked demand (kindOf kinds guard i) next) (stop UnknownByte)
+paramWalked count kinds guard place i next = cond (ltb i count) (leafWalked place (kindOf kinds guard i) next) (stop UnknownByte)
 
 -- the empty guard list, where there are two contacts
 unfoldable pub guardEmptyWalked : ℕ → ℕ → ℕ → ℕ
-guardEmptyWalked contacts demand next = cond (eqb contacts 2) (leafWalked demand guardKind next) (stop UnknownByte)
+guardEmptyWalked contacts place next = cond (eqb contacts 2) (leafWalked place guardKind next) (stop UnknownByte)
 
 -- what a check of a body does not change
 pub record Frame : Type 0 where
@@ -144,58 +174,58 @@ pub record Sized (F : Frame) : Type 0 where
 -- so many arguments, from argument i on
 unfoldable pub argsWalked : (ℕ → ℕ → ℕ) → ℕ → ℕ → ℕ → ℕ → ℕ → ℕ
 argsWalked walk kinds guard zero i at = at
-argsWalked walk kinds guard (suc n) i at = argsWalked walk kinds guard n (i + 1) (walk (kindOf kinds guard i) at)
+argsWalked walk kinds guard (suc n) i at = argsWalked walk kinds guard n (i + 1) (walk (argumentPart + kindOf kinds guard i) at)
 
 abbrev pub armsWalked : (ℕ → ℕ → ℕ) → ℕ → ℕ → ℕ
-armsWalked walk demand at = walk demand (walk demand (walk truthKind at))
+armsWalked walk place at = walk place (walk place (walk (operandPart + truthKind) at))
 
 abbrev pub callWalked : Frame → (ℕ → ℕ → ℕ) → ℕ → ℕ → ℕ → ℕ
-callWalked F walk demand at g =
+callWalked F walk place at g =
     let kinds = getD (F .kinds) g 0 in
     let guard = getD (F .guards) g 0 in
     cond (leb (F .functions) g) (stop UnknownByte)
-    (whereMet demand (kindOf kinds guard 4) (argsWalked walk kinds guard (atMostFour (getD (F .params) g 0)) 0 at))
+    (whereMet place (kindOf kinds guard 4) (argsWalked walk kinds guard (atMostFour (getD (F .params) g 0)) 0 at))
 
 -- hd or null: a Bool, of a list of either contact
 abbrev pub readWalked : (ℕ → ℕ → ℕ) → ℕ → ℕ → ℕ
-readWalked walk demand at = whereMet demand truthKind (walk anyListDemand at)
+readWalked walk place at = whereMet place truthKind (walk (operandPart + anyListDemand) at)
 
 -- tl: a list of the contact that is demanded
 abbrev pub tailWalked : (ℕ → ℕ → ℕ) → ℕ → ℕ → ℕ
-tailWalked walk demand at = cond (eqb demand truthKind) (stop WrongKind) (walk demand at)
+tailWalked walk place at = cond (eqb (demandIn place) truthKind) (wrongKind place) (walk (operandPart + demandIn place) at)
 
 abbrev pub nodeWalked : Frame → (ℕ → ℕ → ℕ) → ℕ → ℕ → Node → ℕ
-nodeWalked F walk demand at node.False = leafWalked demand truthKind at
-nodeWalked F walk demand at node.True = leafWalked demand truthKind at
-nodeWalked F walk demand at node.Empty = leafWalked demand ramKind at
-nodeWalked F walk demand at node.EmptyGuard = guardEmptyWalked (F .contacts) demand at
-nodeWalked F walk demand at (node.Param i) = paramWalked (F .ownParams) (F .ownKinds) (F .ownGuard) demand i at
-nodeWalked F walk demand at node.Head = readWalked walk demand at
-nodeWalked F walk demand at node.Tail = tailWalked walk demand at
-nodeWalked F walk demand at node.Null = readWalked walk demand at
-nodeWalked F walk demand at node.If = armsWalked walk demand at
-nodeWalked F walk demand at node.Cons = stop ListConstructor
-nodeWalked F walk demand at (node.Call g) = callWalked F walk demand at g
-nodeWalked F walk demand at node.Unknown = stop UnknownByte
+nodeWalked F walk place at node.False = leafWalked place truthKind at
+nodeWalked F walk place at node.True = leafWalked place truthKind at
+nodeWalked F walk place at node.Empty = leafWalked place ramKind at
+nodeWalked F walk place at node.EmptyGuard = guardEmptyWalked (F .contacts) place at
+nodeWalked F walk place at (node.Param i) = paramWalked (F .ownParams) (F .ownKinds) (F .ownGuard) place i at
+nodeWalked F walk place at node.Head = readWalked walk place at
+nodeWalked F walk place at node.Tail = tailWalked walk place at
+nodeWalked F walk place at node.Null = readWalked walk place at
+nodeWalked F walk place at node.If = armsWalked walk place at
+nodeWalked F walk place at node.Cons = stop ListConstructor
+nodeWalked F walk place at (node.Call g) = callWalked F walk place at g
+nodeWalked F walk place at node.Unknown = stop UnknownByte
 
--- the expression at a place, with so much depth left; from a refusal on, that refusal
+-- the expression at a position, with so much depth left; from a refusal on, that refusal
 unfoldable pub checkAt : Frame → ℕ → ℕ → ℕ → ℕ
-checkAt F zero demand at = cond (leb (length (F .body)) at) (ended at) (stop TooDeep)
-checkAt F (suc d) demand at =
+checkAt F zero place at = cond (leb (length (F .body)) at) (ended at) (stop TooDeep)
+checkAt F (suc d) place at =
     cond (leb (length (F .body)) at) (ended at)
-    (nodeWalked F (checkAt F d) demand (at + 1) (nodeOf (getD (F .body) at 0)))
+    (nodeWalked F (checkAt F d) place (at + 1) (nodeOf (getD (F .body) at 0)))
 
 unfoldable pub readAt : Frame → ℕ → ℕ → ℕ → ℕ
-readAt F d demand at = readWalked (checkAt F d) demand at
+readAt F d place at = readWalked (checkAt F d) place at
 
 unfoldable pub tailAt : Frame → ℕ → ℕ → ℕ → ℕ
-tailAt F d demand at = tailWalked (checkAt F d) demand at
+tailAt F d place at = tailWalked (checkAt F d) place at
 
 unfoldable pub armsAt : Frame → ℕ → ℕ → ℕ → ℕ
-armsAt F d demand at = armsWalked (checkAt F d) demand at
+armsAt F d place at = armsWalked (checkAt F d) place at
 
 unfoldable pub callWalkedAt : Frame → ℕ → ℕ → ℕ → ℕ → ℕ
-callWalkedAt F d demand at g = callWalked F (checkAt F d) demand at g
+callWalkedAt F d place at g = callWalked F (checkAt F d) place at g
 
 -- ---- Bodies
 
@@ -206,7 +236,7 @@ bodyEnd len w =
 
 -- a whole body
 unfoldable pub bodyAt : Frame → Check
-bodyAt F = bodyEnd (length (F .body)) (checkAt F mostDepth (kindOf (F .ownKinds) (F .ownGuard) 4) 0)
+bodyAt F = bodyEnd (length (F .body)) (checkAt F mostDepth (resultPart + kindOf (F .ownKinds) (F .ownGuard) 4) 0)
 
 -- what the check of body i works on
 abbrev pub frameAt : List ℕ → Sort → ℕ → List ℕ → List ℕ → List ℕ → List ℕ → List ℕ → ℕ → Frame

@@ -1,5 +1,5 @@
-// Expressions, 12 to 16 of the list: the remaining depth falls at each node. A walk comes to one number,
-// a place of the body or a refusal, and body and headers go from call to call as one word each: this
+// Expressions, 12 to 16, 25 and 26 of the list: the remaining depth falls at each node. A walk comes to one number,
+// a position in the body or a refusal, and body and headers go from call to call as one word each: this
 // recursion is what checking a program costs.
 use refusal::Refusal;
 use syntax::GUARD;
@@ -9,14 +9,23 @@ use syntax::TRUTH;
 use syntax::node_of;
 ghost use mathlib.Core.Path.{_≡_};
 ghost use Prim.Native.Nat.{_<_, _≤_};
-ghost use Rattle.rule.specs.Walk.{meets, kindOf, leafWalked, paramWalked, guardEmptyWalked, atMostFour, frameIn, Sized, stop, ended};
+ghost use Rattle.rule.specs.Walk.{anyListDemand, demandIn, wrongKind, meets, kindOf, leafWalked, paramWalked, guardEmptyWalked, atMostFour, frameIn, Sized, stop, ended};
+ghost use Rattle.syntax.specs.Kinds.{guardKind};
 ghost use Rattle.rule.specs.Walk.{checkAt, readAt, tailAt, armsAt, callWalkedAt};
 
-// The numbers from here on stand for refusals: no place of a body is so great.
+// The numbers from here on stand for refusals: no position in a body is so great.
 pub const STOPS: usize = 65536;
 
 // What a place demands is the number of a kind, or this one for a list of either contact.
 const ANY_LIST: u8 = 3;
+
+// A place of an expression is one number: that of its demand, and one of these, which says how a node of another kind is told
+// there: as a fault in a body's result (16), in an operand of hd, tl, null or a condition (25), in an argument (26).
+pub const RESULT: u8 = 0;
+
+const OPERAND: u8 = 4;
+
+const ARGUMENT: u8 = 8;
 
 // An array of headers: from 0 on the functions' counts of parameters, from KINDS on their kinds bytes, from GUARDS on
 // their guard bytes, then how many functions there are, the count, the kinds byte and the guard byte of the function whose
@@ -37,11 +46,11 @@ pub const CONTACTS: usize = 100;
 
 pub const HEADS: usize = 101;
 
-// The place after the expression at a place of a body, with so much depth left, if it meets the demand; or its refusal.
-// Where `at` is a refusal, it is the answer.
-pub fn check(body: &&[u8], heads: &[u8; HEADS], demand: u8, depth: u8, at: usize) -> usize
+// The position after the expression at a position in a body, with so much depth left, if it meets what its place demands; or
+// its refusal. Where `at` is a refusal, it is the answer.
+pub fn check(body: &&[u8], heads: &[u8; HEADS], place: u8, depth: u8, at: usize) -> usize
     requires { ⌜ Sized (frameIn (now (now body)) (now heads)) ⌝ }
-    ensures { λ r. ⌜ r ≡ checkAt (frameIn (now (now (body .entry))) (now (heads .entry))) depth demand at ⌝ }
+    ensures { λ r. ⌜ r ≡ checkAt (frameIn (now (now (body .entry))) (now (heads .entry))) depth place at ⌝ }
 {
     if body.len() <= at {
         return after_end(at);
@@ -52,24 +61,24 @@ pub fn check(body: &&[u8], heads: &[u8; HEADS], demand: u8, depth: u8, at: usize
     let left = depth - 1;
     let next = at + 1;
     match node_of(body[at]) {
-        Node::False => leaf(demand, TRUTH, next),
-        Node::True => leaf(demand, TRUTH, next),
-        Node::Empty => leaf(demand, RAM, next),
-        Node::EmptyGuard => guard_empty(heads[CONTACTS], demand, next),
+        Node::False => leaf(place, TRUTH, next),
+        Node::True => leaf(place, TRUTH, next),
+        Node::Empty => leaf(place, RAM, next),
+        Node::EmptyGuard => guard_empty(heads[CONTACTS], place, next),
         Node::Param(i) => param(
             heads[OWN_PARAMS],
             heads[OWN_KINDS],
             heads[OWN_GUARD],
-            demand,
+            place,
             i,
             next,
         ),
-        Node::Head => reading(body, heads, demand, left, next),
-        Node::Tail => tail(body, heads, demand, left, next),
-        Node::Null => reading(body, heads, demand, left, next),
-        Node::If => arms(body, heads, demand, left, next),
+        Node::Head => reading(body, heads, place, left, next),
+        Node::Tail => tail(body, heads, place, left, next),
+        Node::Null => reading(body, heads, place, left, next),
+        Node::If => arms(body, heads, place, left, next),
         Node::Cons => refused(Refusal::ListConstructor),
-        Node::Call(g) => call(body, heads, demand, left, next, g),
+        Node::Call(g) => call(body, heads, place, left, next, g),
         Node::Unknown => refused(Refusal::UnknownByte),
     }
 }
@@ -81,7 +90,7 @@ fn refused(refusal: Refusal) -> usize
     STOPS + (refusal::number(refusal) as usize)
 }
 
-// What an expression at no place of the body comes to: the refusal so far, or 12.
+// What an expression at no position in the body comes to: the refusal so far, or 12.
 fn after_end(at: usize) -> usize
     ensures { λ r. ⌜ r ≡ ended at ⌝ }
 {
@@ -92,77 +101,93 @@ fn after_end(at: usize) -> usize
     }
 }
 
-// A node with no operands.
-fn leaf(demand: u8, kind: u8, next: usize) -> usize
-    ensures { λ r. ⌜ r ≡ leafWalked demand kind next ⌝ }
+// What a node comes to whose kind its place does not allow.
+fn wrong_kind(place: u8) -> usize
+    ensures { λ r. ⌜ r ≡ wrongKind place ⌝ }
 {
-    if allowed(demand, kind) {
+    if place < OPERAND {
+        return refused(Refusal::WrongKind);
+    }
+    if place < ARGUMENT {
+        refused(Refusal::OperandKind)
+    } else {
+        refused(Refusal::ArgumentKind)
+    }
+}
+
+// A node with no operands.
+fn leaf(place: u8, kind: u8, next: usize) -> usize
+    ensures { λ r. ⌜ r ≡ leafWalked place kind next ⌝ }
+{
+    if allowed(place, kind) {
         next
     } else {
-        refused(Refusal::WrongKind)
+        wrong_kind(place)
     }
 }
 
 // The empty guard list, of a program with so many contacts.
-fn guard_empty(contacts: u8, demand: u8, next: usize) -> usize
-    ensures { λ r. ⌜ r ≡ guardEmptyWalked contacts demand next ⌝ }
+fn guard_empty(contacts: u8, place: u8, next: usize) -> usize
+    ensures { λ r. ⌜ r ≡ guardEmptyWalked contacts place next ⌝ }
 {
     if contacts == 2 {
-        leaf(demand, GUARD, next)
+        leaf(place, GUARD, next)
     } else {
         refused(Refusal::UnknownByte)
     }
 }
 
 // Parameter i of the function whose body is checked.
-fn param(own_params: u8, own_kinds: u8, own_guard: u8, demand: u8, i: u8, next: usize) -> usize
-    ensures { λ r. ⌜ r ≡ paramWalked «own_params» «own_kinds» «own_guard» demand i next ⌝ }
+fn param(own_params: u8, own_kinds: u8, own_guard: u8, place: u8, i: u8, next: usize) -> usize
+    ensures { λ r. ⌜ r ≡ paramWalked «own_params» «own_kinds» «own_guard» place i next ⌝ }
 {
     if i < own_params {
-        leaf(demand, kind(own_kinds, own_guard, i as u64), next)
+        leaf(place, kind(own_kinds, own_guard, i as u64), next)
     } else {
         refused(Refusal::UnknownByte)
     }
 }
 
 // hd or null: a Bool, of a list of either contact.
-fn reading(body: &&[u8], heads: &[u8; HEADS], demand: u8, depth: u8, at: usize) -> usize
+fn reading(body: &&[u8], heads: &[u8; HEADS], place: u8, depth: u8, at: usize) -> usize
     requires { ⌜ Sized (frameIn (now (now body)) (now heads)) ⌝ }
-    ensures { λ r. ⌜ r ≡ readAt (frameIn (now (now (body .entry))) (now (heads .entry))) depth demand at ⌝ }
+    ensures { λ r. ⌜ r ≡ readAt (frameIn (now (now (body .entry))) (now (heads .entry))) depth place at ⌝ }
 {
-    if allowed(demand, TRUTH) {
-        check(body, heads, ANY_LIST, depth, at)
+    if allowed(place, TRUTH) {
+        check(body, heads, OPERAND + ANY_LIST, depth, at)
     } else {
-        refused(Refusal::WrongKind)
+        wrong_kind(place)
     }
 }
 
 // tl: a list of the contact that is demanded.
-fn tail(body: &&[u8], heads: &[u8; HEADS], demand: u8, depth: u8, at: usize) -> usize
+fn tail(body: &&[u8], heads: &[u8; HEADS], place: u8, depth: u8, at: usize) -> usize
     requires { ⌜ Sized (frameIn (now (now body)) (now heads)) ⌝ }
-    ensures { λ r. ⌜ r ≡ tailAt (frameIn (now (now (body .entry))) (now (heads .entry))) depth demand at ⌝ }
+    ensures { λ r. ⌜ r ≡ tailAt (frameIn (now (now (body .entry))) (now (heads .entry))) depth place at ⌝ }
 {
+    let demand = demand_of(place);
+    let operand = OPERAND + demand;
     if demand == TRUTH {
-        refused(Refusal::WrongKind)
+        wrong_kind(place)
     } else {
-        check(body, heads, demand, depth, at)
+        check(body, heads, operand, depth, at)
     }
 }
 
 // A condition and two branches.
-fn arms(body: &&[u8], heads: &[u8; HEADS], demand: u8, depth: u8, at: usize) -> usize
+fn arms(body: &&[u8], heads: &[u8; HEADS], place: u8, depth: u8, at: usize) -> usize
     requires { ⌜ Sized (frameIn (now (now body)) (now heads)) ⌝ }
-    ensures { λ r. ⌜ r ≡ armsAt (frameIn (now (now (body .entry))) (now (heads .entry))) depth demand at ⌝ }
+    ensures { λ r. ⌜ r ≡ armsAt (frameIn (now (now (body .entry))) (now (heads .entry))) depth place at ⌝ }
 {
-    let second = check(body, heads, TRUTH, depth, at);
-    let third = check(body, heads, demand, depth, second);
-    check(body, heads, demand, depth, third)
+    let second = check(body, heads, OPERAND + TRUTH, depth, at);
+    let third = check(body, heads, place, depth, second);
+    check(body, heads, place, depth, third)
 }
 
 // A call of a function, with its arguments.
-fn call(body: &&[u8], heads: &[u8; HEADS], demand: u8, depth: u8, at: usize, callee: u8) -> usize
+fn call(body: &&[u8], heads: &[u8; HEADS], place: u8, depth: u8, at: usize, callee: u8) -> usize
     requires { ⌜ Sized (frameIn (now (now body)) (now heads)) ⌝ }
-    ensures { λ r. ⌜ r ≡ callWalkedAt (frameIn (now (now (body .entry))) (now (heads .entry))) depth demand at callee ⌝ }
+    ensures { λ r. ⌜ r ≡ callWalkedAt (frameIn (now (now (body .entry))) (now (heads .entry))) depth place at callee ⌝ }
 {
     if heads[FUNCTIONS] <= callee {
         return refused(Refusal::UnknownByte);
@@ -170,24 +195,33 @@ fn call(body: &&[u8], heads: &[u8; HEADS], demand: u8, depth: u8, at: usize, cal
     let g = callee as usize;
     let kinds = heads[KINDS + g];
     let guard = heads[GUARDS + g];
-    if allowed(demand, kind(kinds, guard, 4)) {
+    if allowed(place, kind(kinds, guard, 4)) {
         let count = at_most_four(heads[g]);
         let mut i: u64 = 0;
         let mut next = at;
         while i < count {
-            next = check(body, heads, kind(kinds, guard, i), depth, next);
+            let argument = ARGUMENT + kind(kinds, guard, i);
+            next = check(body, heads, argument, depth, next);
             i += 1;
         }
         next
     } else {
-        refused(Refusal::WrongKind)
+        wrong_kind(place)
     }
 }
 
-// Whether a node of a kind may stand at a place with this demand.
-fn allowed(demand: u8, kind: u8) -> bool
-    ensures { λ r. ⌜ r ≡ meets demand kind ⌝ }
+// What a place demands.
+fn demand_of(place: u8) -> u8
+    ensures { λ r. ⌜ (r ≡ demandIn place) × (r ≤ anyListDemand) ⌝ }
 {
+    place % OPERAND
+}
+
+// Whether a node of a kind may stand at a place.
+fn allowed(place: u8, kind: u8) -> bool
+    ensures { λ r. ⌜ r ≡ meets (demandIn place) kind ⌝ }
+{
+    let demand = demand_of(place);
     if demand == kind {
         return true;
     }
@@ -200,7 +234,7 @@ fn allowed(demand: u8, kind: u8) -> bool
 
 // The kind at a place of a header: of parameter i, and at 4 of the result.
 pub fn kind(kinds: u8, guard: u8, i: u64) -> u8
-    ensures { λ r. ⌜ r ≡ kindOf kinds guard i ⌝ }
+    ensures { λ r. ⌜ (r ≡ kindOf kinds guard i) × (r ≤ guardKind) ⌝ }
 {
     syntax::kind_by(trace::bit(kinds as u64, i), trace::bit(guard as u64, i))
 }

@@ -16,7 +16,7 @@ ghost use Prim.Native.Nat.{ℕ, _+_, _<_, _≤_};
 ghost use mathlib.Core.List.{List, []};
 ghost use lib.ListN.{length, getD, drop};
 ghost use lib.Seq.{paste};
-ghost use Rattle.rule.specs.Reading.{onward, rawsFrom, bodiesFrom};
+ghost use Rattle.rule.specs.Reading.{onward, apart, rawsFrom, bodiesFrom};
 ghost use Rattle.rule.specs.Outline.{outlineOf, judgedFrom};
 ghost use Rattle.semantics.specs.declared.Sort.the-variants as Sort;
 ghost use Rattle.rule.specs.Walk.{frame, frameIn, Sized, contactsOf, frameAt, mainBits, bodyAt, bodiesAt, Placed, Counted, scanFrom};
@@ -24,7 +24,7 @@ ghost use Rattle.rule.specs.Walk.{frame, frameIn, Sized, contactsOf, fra
 // Checks the functions of a program of a sort, of so many.
 pub fn check_functions(program: &[u8], sort: Sort, count: u8) -> Judged
     requires { ⌜ Counted (now program) count ⌝ }
-    ensures { λ r. ⌜ r ≡ judgedFrom sort (onward (rawsFrom sort count (drop 1 (now (program .entry)))) (bodiesFrom sort)) ⌝ }
+    ensures { λ r. ⌜ r ≡ judgedFrom sort (onward (rawsFrom sort count (drop 1 (now (program .entry)))) (bodiesFrom apart sort)) ⌝ }
 {
     let scan = scan_headers(program, sort, count);
     let check = scan.check;
@@ -255,7 +255,8 @@ fn check_body(body: &[u8], heads: &[u8; HEADS]) -> Check
         heads[expression::OWN_GUARD],
         4,
     );
-    let end = expression::check(&body, heads, result, syntax::MOST_DEPTH, 0);
+    let place = expression::RESULT + result;
+    let end = expression::check(&body, heads, place, syntax::MOST_DEPTH, 0);
     if expression::STOPS <= end {
         return refusal::numbered(end - expression::STOPS);
     }

@@ -2,7 +2,7 @@
 
 use super::super::generate::records;
 use super::super::oracle::{self, program::Contacts};
-use super::{executable, hex, Bench, Compared};
+use super::{executable, hex, record, Bench, Compared};
 
 /// In every so many rounds one archive is listed.
 const EVERY: u64 = 16;
@@ -40,6 +40,21 @@ pub fn compare(bench: &mut Bench, path: &str, archive: &[u8]) -> Compared {
         let case = hex(archive);
         return Err(format!("printed\n{have}oracle\n{want}archive {case}"));
     }
-    bench.report.count(bench.kind, Contacts::One, 0);
+    let (contacts, number) = match want.contains("stop") {
+        true => refused(archive),
+        false => (Contacts::One, 0),
+    };
+    bench.report.count(bench.kind, contacts, number);
     Ok(())
+}
+
+/// The sort of the record that is refused in an archive, and its number.
+fn refused(archive: &[u8]) -> (Contacts, u32) {
+    let mut rest = archive;
+    loop {
+        match oracle::record::read(rest) {
+            Ok(parts) => rest = &rest[..parts.before()],
+            Err(number) => return (record::contacts(rest), number),
+        }
+    }
 }

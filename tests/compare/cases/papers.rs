@@ -48,8 +48,9 @@ const ROWS: [Row; 13] = [
     (PRESS, (&[6], 4), Some((&[1], 1)), 3, 2),
 ];
 
-/// Programs that are refused, and their numbers: those of document 01, and those that follow the sort.
-const REFUSED: [(&[u8], u32); 12] = [
+/// Programs that are refused, and their numbers: those of document 01, those that follow the sort, and the sorts of
+/// kind fault.
+const REFUSED: [(&[u8], u32); 26] = [
     (&[1, 1, 1, 2, 0, 0x22], 9),
     (&[1, 1, 1, 2, 0, 0x24, 0x10], 14),
     (&[0x80, 2, 3, 2, 1, 0, 1], 6),
@@ -61,7 +62,26 @@ const REFUSED: [(&[u8], u32); 12] = [
     (&[0x81, 2, 3, 0, 1, 0, 1], 11),
     (&[1, 1, 1, 2, 0, 0x22, 3], 15),
     (&[0x81, 2, 3, 2, 1, 0, 3], 16),
-    (&[0x81, 2, 3, 2, 3, 0, 0x80, 0x11, 0x10], 16),
+    (&[0x81, 2, 3, 2, 3, 0, 0x80, 0x11, 0x10], 26),
+    // a whole body, and a branch of it
+    (&[1, 1, 1, 1, 0, 0x10], 16),
+    (&[1, 1, 1, 4, 0, 0x23, 0, 0, 0x10], 16),
+    // an operand of hd, tl and null, and a condition
+    (&[1, 1, 1, 2, 0, 0x20, 0], 25),
+    (&[1, 1, 1, 3, 0, 0x22, 0x21, 0], 25),
+    (&[1, 1, 1, 2, 0, 0x22, 0], 25),
+    (&[1, 1, 1, 4, 0, 0x23, 0x10, 0, 0], 25),
+    // an argument, and a tl's operand in an argument
+    (&[1, 1, 1, 2, 0, 0x80, 0], 26),
+    (&[1, 1, 1, 3, 0, 0x80, 0x21, 0], 25),
+    (&[0x81, 2, 3, 2, 4, 0, 0x80, 0x21, 0x11, 0x11], 25),
+    // a branch in an argument, in an operand and in a condition
+    (&[1, 1, 1, 5, 0, 0x80, 0x23, 0, 0x10, 0], 26),
+    (&[1, 1, 1, 5, 0, 0x22, 0x23, 0, 0x10, 0], 25),
+    (&[1, 1, 1, 7, 0, 0x23, 0x23, 0, 0, 0x10, 0, 0], 25),
+    // an argument in a condition in an operand, and a tl for a Bool in an argument
+    (&[1, 1, 1, 6, 0, 0x22, 0x23, 0x80, 0, 0x10, 0x10], 26),
+    (&[2, 1, 1, 3, 0, 0x81, 0x21, 0x10, 1, 0, 1, 0, 0x10], 26),
 ];
 
 /// The archive that is listed: A on 101, in format 1.

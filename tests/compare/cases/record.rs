@@ -85,7 +85,7 @@ fn order_story(order: &Order, table: &[u16]) -> String {
 }
 
 /// The sort that the format byte of a record speaks of, be it accepted or not.
-fn contacts(bytes: &[u8]) -> Contacts {
+pub fn contacts(bytes: &[u8]) -> Contacts {
     match bytes {
         [.., 3, _] => Contacts::Two,
         _ => Contacts::One,

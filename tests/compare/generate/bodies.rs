@@ -42,7 +42,7 @@ pub enum Role {
     Owner(usize),
 }
 
-/// A program with a body for each target, all of one sort. The targets are taken.
+/// A program with a body for each target, all of one sort. The targets are taken, but for one at fault.
 pub fn of_targets(random: &mut Random, targets: &[Target]) -> Case {
     loop {
         let plan = Plan::of_targets(random, targets);

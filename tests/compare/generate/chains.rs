@@ -309,7 +309,10 @@ impl<'a> Chain<'a> {
         if bytes[0] == IF {
             beside.any_branches(&mut bytes, demand, depth + 1);
         }
-        let values = self.told_apart(&bytes, demand);
+        let values = match self.target.place_at_fault() {
+            None => self.told_apart(&bytes, demand),
+            Some(_) => None,
+        };
         Branch {
             bytes,
             demand,

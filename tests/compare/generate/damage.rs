@@ -3,7 +3,7 @@
 use super::super::oracle::program::{Contacts, Kind};
 use super::super::random::Random;
 use super::programs::{self, Draft};
-use super::writer::{empty, CALL, PARAMETER};
+use super::writer::{empty, CALL, FALSE, PARAMETER};
 
 /// A damaged program; it may still be accepted.
 pub fn program(random: &mut Random, contacts: Contacts) -> Vec<u8> {
@@ -40,7 +40,7 @@ fn finished(random: &mut Random, mut draft: Draft, faults: usize) -> Vec<u8> {
 /// One fault in a draft.
 fn damage_draft(random: &mut Random, draft: &mut Draft) {
     let own = random.below(draft.parts.len());
-    match random.below(16) {
+    match random.below(20) {
         0 => damage_count(random, draft),
         1 => draft.count = Some(near(random, draft.right_count())),
         2 | 3 => damage_header(random, draft, own),
@@ -48,7 +48,8 @@ fn damage_draft(random: &mut Random, draft: &mut Draft) {
         5 => shorten(random, &mut draft.parts[own].body),
         6 => lengthen(random, &mut draft.parts[own].body),
         7 => swap_headers(random, draft),
-        8 | 9 => other_list(random, draft, own),
+        8 | 9 => other_leaf(random, draft, own, |kind| kind != Kind::Bool),
+        10..=13 => other_leaf(random, draft, own, |_| true),
         _ => damage_body(random, draft, own),
     }
 }
@@ -90,22 +91,19 @@ fn damage_header(random: &mut Random, draft: &mut Draft, own: usize) {
     part.header = Some(header);
 }
 
-/// One list of a body, a parameter or an empty one, in place of another; of two contacts often of the other's.
-fn other_list(random: &mut Random, draft: &mut Draft, own: usize) {
+/// One parameter or constant of a body in place of another, both among some kinds; often of a kind not demanded.
+fn other_leaf(random: &mut Random, draft: &mut Draft, own: usize, among: fn(Kind) -> bool) {
     let part = &mut draft.parts[own];
-    let mut lists: Vec<u8> = draft
-        .contacts
-        .contacts()
-        .iter()
-        .map(|it| empty(*it))
-        .collect();
-    let parameters = (PARAMETER..).zip(&part.shape.parameters);
-    let of_lists = parameters.filter(|(_, kind)| **kind != Kind::Bool);
-    lists.extend(of_lists.map(|(byte, _)| byte));
-    let places = (0..part.body.len()).filter(|place| lists.contains(&part.body[*place]));
+    let contacts = draft.contacts.contacts().iter();
+    let mut leaves = vec![(FALSE, Kind::Bool), (FALSE + 1, Kind::Bool)];
+    leaves.extend(contacts.map(|it| (empty(*it), Kind::List(*it))));
+    leaves.extend((PARAMETER..).zip(part.shape.parameters.iter().copied()));
+    leaves.retain(|(_, kind)| among(*kind));
+    let leaves: Vec<u8> = leaves.into_iter().map(|(byte, _)| byte).collect();
+    let places = (0..part.body.len()).filter(|place| leaves.contains(&part.body[*place]));
     let places: Vec<usize> = places.collect();
     if !places.is_empty() {
-        part.body[random.pick(&places)] = random.pick(&lists);
+        part.body[random.pick(&places)] = random.pick(&leaves);
     }
 }
 

@@ -50,7 +50,7 @@ fn other_sort(random: &mut Random, contacts: Contacts) -> Vec<u8> {
 }
 
 /// A sound record's content.
-fn sound(random: &mut Random, contacts: Contacts) -> Content {
+pub fn sound(random: &mut Random, contacts: Contacts) -> Content {
     content_over(random, contacts, 1_000_000)
 }
 

@@ -1,8 +1,11 @@
-//! What a body is written for: a node of some sort in some place, at some depth. All targets come in turn.
+//! What a body is written for: a node of some sort in some place, at some depth, or a node at fault there. All targets
+//! come in turn.
 
 use std::sync::OnceLock;
 
-use super::super::language::{demands, depths, pairs, triples, Place, Sort, DEEPEST};
+use super::super::language::{
+    demands, depths, nestings, pairs, triples, Nesting, Place, Sort, DEEPEST,
+};
 use super::super::oracle::program::{Contacts, Demand, Kind};
 use super::super::random::Random;
 use super::writer::{settled, Mix, Shape};
@@ -103,13 +106,36 @@ fn endings(contacts: Contacts) -> &'static [(Place, Sort)] {
     ENDINGS[contacts as usize].get_or_init(all)
 }
 
-/// How many targets there are, and how many to end a program with.
+/// A nesting whose fault is the whole body's, of which there are few, comes so many times.
+const OF_BODIES: usize = 8;
+
+/// Every nesting of a kind fault, with its number.
+fn faults(contacts: Contacts) -> &'static [(usize, Nesting)] {
+    static FAULTS: [OnceLock<Vec<(usize, Nesting)>>; 2] = [const { OnceLock::new() }; 2];
+    FAULTS[contacts as usize].get_or_init(|| {
+        let mut faults = Vec::new();
+        for (number, nesting) in nestings(contacts).into_iter().enumerate() {
+            let times = match nesting.places {
+                [Some(Place::Body(_)), _, None, _] => OF_BODIES,
+                _ => 1,
+            };
+            faults.extend(vec![(number, nesting); times]);
+        }
+        faults
+    })
+}
+
+/// How many targets there are, how many to end a program with, and how many at fault.
 pub fn count(contacts: Contacts) -> usize {
     aims(contacts).len()
 }
 
 pub fn count_endings(contacts: Contacts) -> usize {
     endings(contacts).len()
+}
+
+pub fn count_faults(contacts: Contacts) -> usize {
+    faults(contacts).len()
 }
 
 /// A target.
@@ -147,6 +173,51 @@ pub fn ending(random: &mut Random, contacts: Contacts, turn: usize) -> Target {
     Target::new(random, contacts, vec![above, place], sort, depth)
 }
 
+/// The arguments there are: how many a call has, and which it is.
+const ARGUMENTS: [(usize, usize); 10] = [
+    (1, 0),
+    (2, 0),
+    (2, 1),
+    (3, 0),
+    (3, 1),
+    (3, 2),
+    (4, 0),
+    (4, 1),
+    (4, 2),
+    (4, 3),
+];
+
+/// A node at fault, in the nesting of that number. Its sort, and which arguments there are on the path, come in turn
+/// too; an if may stand in a branch of another.
+pub fn fault(random: &mut Random, contacts: Contacts, turn: usize) -> (usize, Target) {
+    let (number, nesting) = in_turn(faults(contacts), turn);
+    let mut path = Vec::new();
+    for place in nesting.places() {
+        match place {
+            Place::Argument(_, _, kind) => {
+                let next = turn + turn / ARGUMENTS.len() + path.len();
+                let (count, which) = ARGUMENTS[next % ARGUMENTS.len()];
+                path.push(Place::Argument(count, which, kind));
+            }
+            Place::Then(demand) | Place::Else(demand) if random.one_in(4) => {
+                path.push(random.pick(&[Place::Then(demand), Place::Else(demand)]));
+                path.push(place);
+            }
+            _ => path.push(place),
+        }
+    }
+    let sorts = nesting.sorts(contacts);
+    let sort = sorts[turn % sorts.len()];
+    let least = path[0].least_depth() + path.len() - 1;
+    let any = random.between(least, 12);
+    let depth = match path[0] {
+        Place::Body(_) => least,
+        _ if random.one_in(8) => DEEPEST - sort.below(),
+        _ => any,
+    };
+    (number, Target::new(random, contacts, path, sort, depth))
+}
+
 impl Target {
     fn new(
         random: &mut Random,
@@ -181,6 +252,13 @@ impl Target {
     /// What is demanded of the node.
     pub fn own_demand(&self) -> Demand {
         self.path[self.path.len() - 1].demand(self.contacts)
+    }
+
+    /// If the node is at fault, the place that says so: the nearest with a sort of fault of its own.
+    pub fn place_at_fault(&self) -> Option<Place> {
+        let at_fault = self.sort.at_fault(self.own_demand());
+        let mut places = self.path.iter().rev().copied();
+        places.find(|place| at_fault && place.fault().is_some())
     }
 
     /// The result of a function whose body may hold the target, if that matters. Above a list of either contact there

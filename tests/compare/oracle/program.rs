@@ -30,6 +30,17 @@ pub enum Demand {
     Either,
 }
 
+/// Where a node of a kind that is not demanded stands: the nearest place around it that is no branch of an if.
+#[derive(Clone, Copy, Debug, PartialEq, Eq)]
+pub enum Fault {
+    /// A whole body.
+    Body,
+    /// An operand of hd, tl or null, or a condition.
+    Operand,
+    /// An argument of a call.
+    Argument,
+}
+
 /// A value: a list is known by its trace and its length.
 #[derive(Clone, Copy, Debug, PartialEq, Eq)]
 pub enum Value {
@@ -120,6 +131,17 @@ impl Demand {
         match self {
             Demand::Only(demanded) => kind == demanded,
             Demand::Either => kind != Kind::Bool,
+        }
+    }
+}
+
+impl Fault {
+    /// The number that refuses it.
+    pub fn number(self) -> u32 {
+        match self {
+            Fault::Body => 16,
+            Fault::Operand => 25,
+            Fault::Argument => 26,
         }
     }
 }
@@ -241,7 +263,7 @@ fn body(contacts: Contacts, shapes: &[Shape], own: usize) -> Result<Function, u3
         at: 0,
         steps: Vec::new(),
     };
-    parser.expression(Demand::Only(shapes[own].result), 1)?;
+    parser.expression(Demand::Only(shapes[own].result), Fault::Body, 1)?;
     if parser.at < shapes[own].body.len() {
         return Err(17);
     }
@@ -262,18 +284,19 @@ struct Parser<'a> {
 }
 
 impl Parser<'_> {
-    /// Parses the expression that begins here, its first node at the given depth.
-    fn expression(&mut self, demand: Demand, depth: usize) -> Result<(), u32> {
+    /// Parses the expression that begins here, its first node at the given depth. A node of another kind than the one
+    /// demanded is the given fault.
+    fn expression(&mut self, demand: Demand, fault: Fault, depth: usize) -> Result<(), u32> {
         let byte = *self.own.body.get(self.at).ok_or(12u32)?;
         if depth > 64 {
             return Err(13);
         }
         let node = self.node(byte)?;
         if !self.fits(&node, demand) {
-            return Err(16);
+            return Err(fault.number());
         }
         self.at += 1;
-        self.operands(node, demand, depth + 1)
+        self.operands(node, demand, fault, depth + 1)
     }
 
     /// What a byte means in this body.
@@ -313,23 +336,29 @@ impl Parser<'_> {
     }
 
     /// Parses what belongs to a node, and writes the node's steps. hd and null take a list of either contact, tl hands
-    /// its demand on.
-    fn operands(&mut self, node: Node, demand: Demand, depth: usize) -> Result<(), u32> {
+    /// its demand on. An if alone hands its own sort of fault on.
+    fn operands(
+        &mut self,
+        node: Node,
+        demand: Demand,
+        fault: Fault,
+        depth: usize,
+    ) -> Result<(), u32> {
         match node {
             Node::Leaf(step, _) => self.steps.push(step),
             Node::OfList(step) => {
-                self.expression(Demand::Either, depth)?;
+                self.expression(Demand::Either, Fault::Operand, depth)?;
                 self.steps.push(step);
             }
             Node::Tail => {
-                self.expression(demand, depth)?;
+                self.expression(demand, Fault::Operand, depth)?;
                 self.steps.push(Step::Tail);
             }
-            Node::If => self.branches(demand, depth)?,
+            Node::If => self.branches(demand, fault, depth)?,
             Node::Call(callee) => {
                 let shapes = self.shapes;
                 for kind in &shapes[callee].parameters {
-                    self.expression(Demand::Only(*kind), depth)?;
+                    self.expression(Demand::Only(*kind), Fault::Argument, depth)?;
                 }
                 self.steps.push(Step::Call(callee));
             }
@@ -338,15 +367,15 @@ impl Parser<'_> {
     }
 
     /// Parses condition and branches of an if, and joins them by jumps.
-    fn branches(&mut self, demand: Demand, depth: usize) -> Result<(), u32> {
-        self.expression(Demand::Only(Kind::Bool), depth)?;
+    fn branches(&mut self, demand: Demand, fault: Fault, depth: usize) -> Result<(), u32> {
+        self.expression(Demand::Only(Kind::Bool), Fault::Operand, depth)?;
         let unless = self.steps.len();
         self.steps.push(Step::Unless(0));
-        self.expression(demand, depth)?;
+        self.expression(demand, fault, depth)?;
         let go = self.steps.len();
         self.steps.push(Step::Go(0));
         self.steps[unless] = Step::Unless(self.steps.len());
-        self.expression(demand, depth)?;
+        self.expression(demand, fault, depth)?;
         self.steps[go] = Step::Go(self.steps.len());
         Ok(())
     }

@@ -1,26 +1,9 @@
 -- `numbered` meets its contract: an arm with one number computes; no other number is a refusal's.
-use Prim.Native.Nat.{ℕ, zero, suc, _<_, _≤_}
-use mathlib.Core.Path.{_≡_, refl, sym, ap}
-use native.Mathlib.Omega.{arith}
-use lib.ListN.{length}
-use Rattle.refusal.specs.declared.Check.the-variants.{Passed}
-use Rattle.refusal.specs.{refusals, checkOf}
-use Rattle.refusal.proofs.Numbers.{past-passed}
+use mathlib.Core.Path.{sym, ap}
+use Rattle.refusal.specs.{checkOf}
+use Rattle.refusal.proofs.Numbers.{others-passed}
 use Rattle.refusal.proofs.numbered.Statement.{statement}
 use Rattle.refusal.proofs.numbered.Tie as tie
-
--- a number that is none of the first k
-abbrev Others : ℕ → ℕ → Type 0
-Others zero n = Unit {0}
-Others (suc k) n = Others k n × (n ≡ suc k → ⊥)
-
-others-past : (k n : ℕ) → Others k n → 1 ≤ n → k < n
-others-past zero n h some = some
-others-past (suc k) n h some = let not : n ≡ suc k → ⊥ = h .1 in omega (arith, others-past k n (h .0) some)
-
-rest-passed : (n : ℕ) → Others (length refusals) n → Passed ≡ checkOf n
-rest-passed zero h = refl
-rest-passed (suc n) h = sym (past-passed (suc n) (others-past (length refusals) (suc n) h (omega arith)))
 
 returns : tie.Need-returns
 returns c = sym (ap checkOf (c .match .keys1))
@@ -92,7 +75,13 @@ returns-23 : tie.Need-returns-23
 returns-23 c = sym (ap checkOf (c .match .keys23))
 
 returns-24 : tie.Need-returns-24
-returns-24 c = rest-passed (c .before .args .number) (c .match .rest)
+returns-24 c = sym (ap checkOf (c .match .keys24))
+
+returns-25 : tie.Need-returns-25
+returns-25 c = sym (ap checkOf (c .match .keys25))
+
+returns-26 : tie.Need-returns-26
+returns-26 c = sym (others-passed (c .before .args .number) (c .match .rest))
 
 pub numbered-spec : {M : Type 1} → statement M
 numbered-spec =
@@ -121,4 +110,6 @@ numbered-spec =
     returns-21
     returns-22
     returns-23
-    returns-24)
+    returns-24
+    returns-25
+    returns-26)

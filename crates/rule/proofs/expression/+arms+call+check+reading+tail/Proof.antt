@@ -29,11 +29,13 @@ use Rattle.rule.proofs.expression.+arms+call+check+reading+tail.Lts-tai
 use Rattle.rule.proofs.expression.after_end.Reads as after-end-reads
 use Rattle.rule.proofs.expression.allowed.Reads as allowed-reads
 use Rattle.rule.proofs.expression.at_most_four.Reads as at-most-four-reads
+use Rattle.rule.proofs.expression.demand_of.Reads as demand-of-reads
 use Rattle.rule.proofs.expression.guard_empty.Reads as guard-empty-reads
 use Rattle.rule.proofs.expression.kind.Reads as kind-reads
 use Rattle.rule.proofs.expression.leaf.Reads as leaf-reads
 use Rattle.rule.proofs.expression.param.Reads as param-reads
 use Rattle.rule.proofs.expression.refused.Reads as refused-reads
+use Rattle.rule.proofs.expression.wrong_kind.Reads as wrong-kind-reads
 use Rattle.syntax.proofs.node_of.Reads as node-of-reads
 use Rattle.rule.proofs.expression.+arms+call+check+reading+tail.{statement}
 use Rattle.rule.proofs.expression.+arms+call+check+reading+tail.Tie.{close}
@@ -98,6 +100,8 @@ call-claims t = (
   at-most-four-reads.Learnt,
   check-below t,
   check.Post,
+  wrong-kind-reads.Asked,
+  wrong-kind-reads.Learnt,
 )
 
 abbrev check-claims : ℕ → check-lts.Claims
@@ -125,16 +129,26 @@ check-claims t = (
 )
 
 abbrev reading-claims : ℕ → reading-lts.Claims
-reading-claims t = (allowed-reads.Asked, allowed-reads.Learnt, check-below t, check.Post, refused-reads.Asked, refused-reads.Learnt)
+reading-claims t = (allowed-reads.Asked, allowed-reads.Learnt, check-below t, check.Post, wrong-kind-reads.Asked, wrong-kind-reads.Learnt)
 
 abbrev tail-claims : ℕ → tail-lts.Claims
-tail-claims t = (refused-reads.Asked, refused-reads.Learnt, check-below t, check.Post)
+tail-claims t = (
+  demand-of-reads.Asked,
+  demand-of-reads.Learnt,
+  wrong-kind-reads.Asked,
+  wrong-kind-reads.Learnt,
+  check-below t,
+  check.Post,
+)
 
 at-node : (t : ℕ) (c : check-lts.After-node-of (check-claims t) (check-at t) check.Post) {k : Node} → c .node-of .result ≡ k →
     let a = c .before .before .before .before .args in
     let F = frameIn (now (a .body .now)) (a .heads .now) in
-    checkAt F (a .depth) (a .demand) (a .at) ≡ nodeWalked F (checkAt F (a .depth - 1)) (a .demand) (a .at + 1) k
+    checkAt F (a .depth) (a .place) (a .at) ≡ nodeWalked F (checkAt F (a .depth - 1)) (a .place) (a .at + 1) k
 at-node t c q = check-node _ _ _ _ (c .before .before .before .if1 .left) (c .before .before .if2 .left) (sym (c .node-of .ensures) ∙ q)
+
+arms-add-check : (t : ℕ) → arms-lts.Need-add-check (arms-claims t) (arms-at t) arms.Post
+arms-add-check t c = omega arith
 
 arms-check-requires :
     (t : ℕ) → arms-lts.Need-check-requires (arms-claims t) (arms-at t) arms.Post
@@ -153,11 +167,11 @@ unfolding armsAt
 arms-returns t c = c .check3 .ensures ∙ ap (checkAt _ _ _) (c .before .check2 .ensures ∙ ap (checkAt _ _ _) (c .before .before .check .ensures))
 
 abbrev call-Inv-loop : call-lts.InvT-loop
-call-Inv-loop body heads demand depth at callee g kinds guard count i₀ next₀ i next =
+call-Inv-loop body heads place depth at callee g kinds guard count i₀ next₀ i next =
     Along (checkAt (frameIn (now body) heads) depth) kinds guard count at i next
 
 abbrev call-μ-loop : call-lts.MeasureT-loop
-call-μ-loop body heads demand depth at callee g kinds guard count i₀ next₀ i next = count - i
+call-μ-loop body heads place depth at callee g kinds guard count i₀ next₀ i next = count - i
 
 call-element-copy-out-if1 : (t : ℕ) → call-lts.Need-element-copy-out-if1 (call-claims t) (call-at t) call.Post call-Inv-loop call-μ-loop
 call-element-copy-out-if1 t c = omega arith
@@ -199,6 +213,9 @@ call-loop-holds t c = along-start _ _ _ _ _
 call-kind-requires-2 : (t : ℕ) → call-lts.Need-kind-requires-2 (call-claims t) (call-at t) call.Post call-Inv-loop call-μ-loop
 call-kind-requires-2 t c κs = search needs
 
+call-add-argument : (t : ℕ) → call-lts.Need-add-argument (call-claims t) (call-at t) call.Post call-Inv-loop call-μ-loop
+call-add-argument t c = omega (arith, c .kind2 .ensures .1)
+
 call-check-requires : (t : ℕ) → call-lts.Need-check-requires (call-claims t) (call-at t) call.Post call-Inv-loop call-μ-loop
 call-check-requires t c κs = (omega arith, c .before .before .before .before .before .before .before .before .before .before .before .before .pre .1)
 
@@ -210,10 +227,10 @@ call-loop-less t c = omega arith
 
 call-loop-again : (t : ℕ) → call-lts.Need-loop-again (call-claims t) (call-at t) call.Post call-Inv-loop call-μ-loop
 call-loop-again t c =
-    along-more (c .before .before .before .loop .inv) (c .before .before .loop-test .taken) (c .before .kind2 .ensures) (c .check .ensures)
+    along-more (c .before .before .before .loop .inv) (c .before .before .loop-test .taken) (c .before .kind2 .ensures .0) (c .check .ensures)
 
-call-refused-requires-2 : (t : ℕ) → call-lts.Need-refused-requires-2 (call-claims t) (call-at t) call.Post call-Inv-loop call-μ-loop
-call-refused-requires-2 t c κs = search needs
+call-wrong-kind-requires : (t : ℕ) → call-lts.Need-wrong-kind-requires (call-claims t) (call-at t) call.Post call-Inv-loop call-μ-loop
+call-wrong-kind-requires t c κs = search needs
 
 call-returns-2 : (t : ℕ) → call-lts.Need-returns-2 (call-claims t) (call-at t) call.Post call-Inv-loop call-μ-loop
 call-returns-2 t c =
@@ -223,7 +240,7 @@ call-returns-2 t c =
     sym
     (call-args _ _ _ _ _ (header-in (a .heads .now) (a .callee) below kindsPlace) (header-in (a .heads .now) (a .callee) below guardsPlace)
     (c .before .before .before .before .before .before .before .before .before .if1 .left)
-    (c .before .before .before .before .before .before .kind .ensures) (c .before .before .before .before .before .allowed .ensures)
+    (c .before .before .before .before .before .before .kind .ensures .0) (c .before .before .before .before .before .allowed .ensures)
     (c .before .before .before .before .if2 .taken)
     (c .before .before .at-most-four .ensures .0 ∙ ap atMostFour (params-in (a .heads .now) (a .callee) below))
     ∙ along-end (c .before .loop .inv) (c .loop-test .left))
@@ -233,10 +250,10 @@ call-returns-3 t c =
     let start = c .before .before .before .before .before .before .before .before in
     let a = start .args in
     let below : a .callee < mostFunctions = omega (arith, start .pre .1 .few) in
-    c .refused2 .ensures
+    c .wrong-kind .ensures
     ∙ sym
     (call-not _ _ _ _ _ (header-in (a .heads .now) (a .callee) below kindsPlace) (header-in (a .heads .now) (a .callee) below guardsPlace)
-    (c .before .before .before .before .before .before .if1 .left) (c .before .before .before .kind .ensures) (c .before .before .allowed .ensures)
+    (c .before .before .before .before .before .before .if1 .left) (c .before .before .before .kind .ensures .0) (c .before .before .allowed .ensures)
     (c .before .if2 .left))
 
 check-after-end-requires : (t : ℕ) → check-lts.Need-after-end-requires (check-claims t) (check-at t) check.Post
@@ -393,29 +410,38 @@ check-returns-14 t c = c .refused3 .ensures ∙ sym (at-node t (c .before .befor
 reading-allowed-requires : (t : ℕ) → reading-lts.Need-allowed-requires (reading-claims t) (reading-at t) reading.Post
 reading-allowed-requires t c κs = search needs
 
+reading-add-check : (t : ℕ) → reading-lts.Need-add-check (reading-claims t) (reading-at t) reading.Post
+reading-add-check t c = omega arith
+
 reading-check-requires : (t : ℕ) → reading-lts.Need-check-requires (reading-claims t) (reading-at t) reading.Post
 reading-check-requires t c κs = (omega arith, c .before .before .pre .1)
 
-reading-refused-requires : (t : ℕ) → reading-lts.Need-refused-requires (reading-claims t) (reading-at t) reading.Post
-reading-refused-requires t c κs = search needs
+reading-wrong-kind-requires : (t : ℕ) → reading-lts.Need-wrong-kind-requires (reading-claims t) (reading-at t) reading.Post
+reading-wrong-kind-requires t c κs = search needs
 
 reading-returns : (t : ℕ) → reading-lts.Need-returns (reading-claims t) (reading-at t) reading.Post
-reading-returns t c = c .check .ensures ∙ sym (read-of _ _ _ _ (c .before .before .allowed .ensures) (c .before .if1 .taken))
+reading-returns t c = read-of _ _ _ _ (c .before .before .allowed .ensures) (c .before .if1 .taken) (c .check .ensures)
 
 reading-returns-2 : (t : ℕ) → reading-lts.Need-returns-2 (reading-claims t) (reading-at t) reading.Post
-reading-returns-2 t c = c .refused .ensures ∙ sym (read-not _ _ _ _ (c .before .before .allowed .ensures) (c .before .if1 .left))
+reading-returns-2 t c = c .wrong-kind .ensures ∙ sym (read-not _ _ _ _ (c .before .before .allowed .ensures) (c .before .if1 .left))
 
-tail-refused-requires : (t : ℕ) → tail-lts.Need-refused-requires (tail-claims t) (tail-at t) tail.Post
-tail-refused-requires t c κs = search needs
+tail-demand-of-requires : (t : ℕ) → tail-lts.Need-demand-of-requires (tail-claims t) (tail-at t) tail.Post
+tail-demand-of-requires t c κs = search needs
+
+tail-add-operand : (t : ℕ) → tail-lts.Need-add-operand (tail-claims t) (tail-at t) tail.Post
+tail-add-operand t c = omega (arith, c .demand-of .ensures .1)
+
+tail-wrong-kind-requires : (t : ℕ) → tail-lts.Need-wrong-kind-requires (tail-claims t) (tail-at t) tail.Post
+tail-wrong-kind-requires t c κs = search needs
 
 tail-check-requires : (t : ℕ) → tail-lts.Need-check-requires (tail-claims t) (tail-at t) tail.Post
-tail-check-requires t c κs = (omega arith, c .before .pre .1)
+tail-check-requires t c κs = (omega arith, c .before .before .pre .1)
 
 tail-returns : (t : ℕ) → tail-lts.Need-returns (tail-claims t) (tail-at t) tail.Post
-tail-returns t c = c .refused .ensures ∙ sym (tail-not _ _ _ _ (c .before .if1 .taken))
+tail-returns t c = c .wrong-kind .ensures ∙ sym (tail-not _ _ _ _ (c .before .before .demand-of .ensures .0) (c .before .if1 .taken))
 
 tail-returns-2 : (t : ℕ) → tail-lts.Need-returns-2 (tail-claims t) (tail-at t) tail.Post
-tail-returns-2 t c = c .check .ensures ∙ sym (tail-of _ _ _ _ (c .before .if1 .left))
+tail-returns-2 t c = tail-of _ _ _ _ (c .before .before .demand-of .ensures .0) (c .before .if1 .left) (c .check .ensures)
 
 pub +arms+call+check+reading+tail-spec : {M : Type 1} → statement M
 +arms+call+check+reading+tail-spec =
@@ -429,6 +455,7 @@ pub +arms+call+check+reading+tail-spec : {M : Type 1} → statement M
     (arms-claims t)
     (arms-at t)
     arms.Post
+    (arms-add-check t)
     (arms-check-requires t)
     (arms-check-requires-2 t)
     (arms-check-requires-3 t)
@@ -451,11 +478,12 @@ pub +arms+call+check+reading+tail-spec : {M : Type 1} → statement M
     (call-at-most-four-requires t)
     (call-loop-holds t)
     (call-kind-requires-2 t)
+    (call-add-argument t)
     (call-check-requires t)
     (call-add-i t)
     (call-loop-less t)
     (call-loop-again t)
-    (call-refused-requires-2 t)
+    (call-wrong-kind-requires t)
     (call-returns-2 t)
     (call-returns-3 t))
     (λ t. check-lts.spec (check-claims t)
@@ -513,15 +541,18 @@ pub +arms+call+check+reading+tail-spec : {M : Type 1} → statement M
     (reading-at t)
     reading.Post
     (reading-allowed-requires t)
+    (reading-add-check t)
     (reading-check-requires t)
-    (reading-refused-requires t)
+    (reading-wrong-kind-requires t)
     (reading-returns t)
     (reading-returns-2 t))
     λ t. tail-lts.spec
     (tail-claims t)
     (tail-at t)
     tail.Post
-    (tail-refused-requires t)
+    (tail-demand-of-requires t)
+    (tail-add-operand t)
+    (tail-wrong-kind-requires t)
     (tail-check-requires t)
     (tail-returns t)
     (tail-returns-2 t)

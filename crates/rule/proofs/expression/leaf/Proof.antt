@@ -8,8 +8,8 @@ use Rattle.rule.proofs.expression.leaf.Tie as tie
 allowed-requires : tie.Need-allowed-requires
 allowed-requires c κs = search needs
 
-refused-requires : tie.Need-refused-requires
-refused-requires c κs = search needs
+wrong-kind-requires : tie.Need-wrong-kind-requires
+wrong-kind-requires c κs = search needs
 
 returns : tie.Need-returns
 unfolding leafWalked
@@ -17,7 +17,7 @@ returns c = simp (sym (c .before .allowed .ensures) ∙ c .if1 .taken)
 
 returns-2 : tie.Need-returns-2
 unfolding leafWalked
-returns-2 c = c .refused .ensures ∙ simp (sym (c .before .before .allowed .ensures) ∙ c .before .if1 .left)
+returns-2 c = c .wrong-kind .ensures ∙ simp (sym (c .before .before .allowed .ensures) ∙ c .before .if1 .left)
 
 pub leaf-spec : {M : Type 1} → statement M
-leaf-spec = tie.close (tie.spec allowed-requires refused-requires returns returns-2)
+leaf-spec = tie.close (tie.spec allowed-requires wrong-kind-requires returns returns-2)

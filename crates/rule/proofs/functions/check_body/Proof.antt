@@ -1,5 +1,6 @@
 -- `check_body` meets its contract: the expression, then nothing after it.
 use Rattle.rule.proofs.BodyWays.{body-passed, body-after, body-stopped}
+use native.Mathlib.Omega.{arith}
 use borrow.Author.Needs.{needs}
 use Rattle.rule.proofs.functions.check_body.Statement.{statement}
 use Rattle.rule.proofs.functions.check_body.Tie as tie
@@ -13,6 +14,9 @@ element-copy-out-kind-2 c = search needs
 kind-requires : tie.Need-kind-requires
 kind-requires c κs = search needs
 
+add-place : tie.Need-add-place
+add-place c = omega (arith, c .kind .ensures .1)
+
 check-requires : tie.Need-check-requires
 check-requires c κs = search needs
 
@@ -21,15 +25,15 @@ numbered-requires c κs = search needs
 
 returns : tie.Need-returns
 returns c =
-    body-stopped _ (c .before .before .before .before .kind .ensures) (c .before .before .check .ensures) (c .before .if1 .taken)
+    body-stopped _ (c .before .before .before .before .kind .ensures .0) (c .before .before .check .ensures) (c .before .if1 .taken)
     (c .numbered .ensures)
 
 returns-2 : tie.Need-returns-2
 returns-2 c =
-    body-passed _ (c .before .before .before .before .kind .ensures) (c .before .before .check .ensures) (c .before .if1 .left) (c .if2 .taken)
+    body-passed _ (c .before .before .before .before .kind .ensures .0) (c .before .before .check .ensures) (c .before .if1 .left) (c .if2 .taken)
 
 returns-3 : tie.Need-returns-3
-returns-3 c = body-after _ (c .before .before .before .before .kind .ensures) (c .before .before .check .ensures) (c .before .if1 .left) (c .if2 .left)
+returns-3 c = body-after _ (c .before .before .before .before .kind .ensures .0) (c .before .before .check .ensures) (c .before .if1 .left) (c .if2 .left)
 
 pub check-body-spec : {M : Type 1} → statement M
 check-body-spec =
@@ -38,6 +42,7 @@ check-body-spec =
     element-copy-out-kind
     element-copy-out-kind-2
     kind-requires
+    add-place
     check-requires
     numbered-requires
     returns
