@@ -23,10 +23,10 @@ use Rattle.semantics.specs.Language.{Kind, truth, list, Expr, Function, Program
 use Rattle.syntax.specs.declared.Header.{Header}
 use Rattle.syntax.specs.Limits.{mostDepth, mostBytes}
 use Rattle.syntax.specs.Kinds.{ramKind, guardKind, kindNumber}
-use Rattle.rule.specs.Reading.{Parsed, got, refused, onward, kindAt, kindsFrom, paramKinds, resultKind, Raw, exprFrom, wholeBody, functionFrom, functionsFrom, sameKinds, checkFrom, apart, bodyPlace}
-use Rattle.rule.specs.Walk.{resultPart, kindOf, Frame, firstStop, checkAt, bodyEnd, bodyAt, bodiesAt, mainBits}
+use Rattle.rule.specs.Reading.{Parsed, got, refused, onward, kindAt, kindsFrom, paramKinds, resultKind, Raw, exprFrom, wholeBody, functionFrom, functionsFrom, sameKinds, checkFrom, inResult, bodyPlace, apart}
+use Rattle.rule.specs.Walk.{demandFor, faultPart, kindOf, Frame, firstStop, checkAt, bodyEnd, bodyAt, bodiesAt, mainBits}
 use Rattle.rule.proofs.Walking.{stop-above, stop-back}
-use Rattle.rule.proofs.WalkMeaning.{Framed, Step, went, stopped, kind-number, ownOf, expr-step}
+use Rattle.rule.proofs.WalkMeaning.{Framed, Step, went, stopped, kind-number, kind-demand, ownOf, expr-step}
 
 -- ---- Bodies
 
@@ -56,8 +56,8 @@ unfolding bodyAt
 body-means s H F x fit =
     let k = F .ownKinds in
     let g = F .ownGuard in
-    let step : Step (F .body) (checkAt F mostDepth (resultPart + kindOf k g 4) 0) (exprFrom apart s H (ownOf F) mostDepth (bodyPlace (kindAt k g 4)) (F .body)) =
-    rw (kind-number k g 4) at (expr-step s H F (fit .framed) (fit .short) mostDepth (bodyPlace (kindAt k g 4)) 0 (omega arith)) in
+    let step : Step (F .body) (checkAt F mostDepth (faultPart inResult + demandFor (kindOf k g 4)) 0) (exprFrom apart s H (ownOf F) mostDepth (bodyPlace (kindAt k g 4)) (F .body)) =
+    rw (kind-demand k g 4) at (expr-step s H F (fit .framed) (fit .short) mostDepth (bodyPlace (kindAt k g 4)) 0 (omega arith)) in
     rw (← fit .body, ← fit .params, ← fit .kinds, ← fit .guard) (end-means (F .body) _ (fit .short) _ _ step)
 
 -- ---- Functions

@@ -15,20 +15,22 @@ use Rattle.refusal.specs.declared.Check.{Check}
 use Rattle.refusal.specs.declared.Check.the-variants as check
 use Rattle.refusal.specs.{checkOf, _then_}
 use Rattle.syntax.specs.Limits.{mostDepth}
-use Rattle.rule.specs.Walk.{resultPart, kindOf, Frame, firstStop, checkAt, bodyEnd, bodyAt, bodiesAt}
+use Rattle.rule.specs.Reading.{inResult}
+use Rattle.rule.specs.Walk.{demandFor, faultPart, kindOf, Frame, firstStop, checkAt, bodyEnd, bodyAt, bodiesAt}
 
-module _ (F : Frame) {result : ℕ} (k : result ≡ kindOf (F .ownKinds) (F .ownGuard) 4) {w : ℕ} (e : w ≡ checkAt F mostDepth (resultPart + result) 0) where
+module _ (F : Frame) {kind : ℕ} (k : kind ≡ kindOf (F .ownKinds) (F .ownGuard) 4) {demand : ℕ} (d : demand ≡ demandFor kind) {w : ℕ}
+    (e : w ≡ checkAt F mostDepth (faultPart inResult + demand) 0) where
   pub body-passed : w < firstStop → w ≡ length (F .body) → check.Passed ≡ bodyAt F
   unfolding bodyAt bodyEnd
-  body-passed h q = rw (← k, ← e, lt-ltb _ _ h, eq-eqb _ _ q)
+  body-passed h q = rw (← k, ← d, ← e, lt-ltb _ _ h, eq-eqb _ _ q)
 
   pub body-after : w < firstStop → (w ≡ length (F .body) → ⊥) → check.Refused BytesAfterExpression ≡ bodyAt F
   unfolding bodyAt bodyEnd
-  body-after h q = rw (← k, ← e, lt-ltb _ _ h, ne-eqb _ _ q)
+  body-after h q = rw (← k, ← d, ← e, lt-ltb _ _ h, ne-eqb _ _ q)
 
   pub body-stopped : firstStop ≤ w → {c : Check} → c ≡ checkOf (w - firstStop) → c ≡ bodyAt F
   unfolding bodyAt bodyEnd
-  body-stopped h q = rw (← k, ← e, le-ltb _ _ h, ← q)
+  body-stopped h q = rw (← k, ← d, ← e, le-ltb _ _ h, ← q)
 
 -- a part is no longer than the whole
 pub part-short : (bytes : List ℕ) {start end : ℕ} → start ≤ end → end ≤ length bytes → length (take (end - start) (drop start bytes)) ≤ length bytes

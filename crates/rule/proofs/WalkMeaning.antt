@@ -2,8 +2,9 @@
 --   Framed                       a frame that fits the headers of a program of a sort
 --   Step                         a walk and a reading that agree: the bytes after what was read are those at the position after it, or
 --                                both are refused
---   kind-number, meets-allows    kinds and demands as numbers
---   demand-in, refusal-in        the demand and the refusal of a place, by its number
+--   kind-number, kind-demand     kinds and their demands as numbers
+--   demand-in, wrong-kind        the demand and the refusal of a place, by its number
+--   meets-allows                 the kinds that it allows
 --   at-most-four                 a number of parameters that is not refused
 --   ownOf                        the kinds of a frame's own parameters
 --   expr-step                    expressions
@@ -11,16 +12,17 @@ use mathlib.Core.Path.{_≡_, refl, ap, _∙_}
 use mathlib.Core.Bool.{Bool, true, false, not, cond}
 use mathlib.Core.List.{List, [], _∷_}
 use mathlib.Core.Option.{Option, none, some}
-use Prim.Native.Nat.{ℕ, zero, suc, _+_, _<_, _≤_}
+use Prim.Native.Nat.{ℕ, zero, suc, _+_, _*_, _/_, _%_, _<_, _≤_}
 use native.Mathlib.Nat.{zero-add}
 use native.Mathlib.Numerals.{add-one}
 use native.Mathlib.Omega.{arith}
 use lib.Dec.{ltb, leb, eqb}
 use lib.ListN.{length, getElem?, getD, drop, drop-of-length-le}
 use lib.Seq.{drop-cons}
-use borrow.Author.Tests.{lt-ltb, le-ltb, le-leb, lt-leb, ltb-true, ltb-false, leb-true, leb-false}
+use borrow.Author.Tests.{lt-ltb, le-leb, lt-leb, ltb-true, ltb-false, leb-true, leb-false}
 use Rattle.refusal.specs.declared.Refusal.{Refusal}
 use Rattle.refusal.specs.declared.Refusal.the-variants.{BodyEnds, TooDeep, ListConstructor, UnknownByte}
+use Rattle.refusal.specs.{numberOf}
 use Rattle.trace.specs.{bitOf}
 use Rattle.semantics.specs.declared.Contact.the-variants.{Ram, Guard}
 use Rattle.semantics.specs.declared.Sort.{Sort}
@@ -32,9 +34,9 @@ use Rattle.syntax.specs.declared.Header.{Header}
 use Rattle.syntax.specs.Limits.{mostParams, mostBytes}
 use Rattle.syntax.specs.Bytes.{nodeOf}
 use Rattle.syntax.specs.Kinds.{truthKind, kindNumber, kindBy}
-use Rattle.rule.specs.Reading.{Parsed, got, refused, onward, unlessFault, kindAt, kindsFrom, resultKind, Fault, inResult, inOperand, inArgument, Place, conditionPlace, operandPlace, argumentPlace}
+use Rattle.rule.specs.Reading.{Parsed, got, refused, onward, unlessFault, kindAt, kindsFrom, resultKind, inArgument, Place, conditionPlace, operandPlace, argumentPlace}
 use Rattle.rule.specs.Reading.{apart, demanded, Reader, argsFrom, guardEmptyFrom, paramFrom, callFrom, opFrom, ifFrom, nodeFrom, exprFrom}
-use Rattle.rule.specs.Walk.{demandNumber, operandPart, argumentPart, faultPart, placeNumber, demandIn, refusalIn, meets, wrongKind, kindOf, atMostFour, firstStop, stop, ended, whereMet, leafWalked, paramWalked, guardEmptyWalked, Frame, contactsOf}
+use Rattle.rule.specs.Walk.{demandNumber, demandFor, demands, faultPart, placeNumber, demandIn, meets, wrongKind, kindOf, atMostFour, firstStop, stop, ended, whereMet, leafWalked, paramWalked, guardEmptyWalked, Frame, contactsOf}
 use Rattle.rule.specs.Walk.{argsWalked, armsWalked, callWalked, readWalked, tailWalked, nodeWalked, checkAt}
 use Rattle.rule.proofs.Expressions.{place-below}
 use Rattle.rule.proofs.Walking.{check-stays}
@@ -56,49 +58,54 @@ kind-number k g i = go (bitOf i k) (bitOf i g)
     go true false = refl
     go false b = refl
 
-pub meets-allows : (δ : Demand) (κ : Kind) → meets (demandNumber δ) (kindNumber κ) ≡ allows δ κ
-meets-allows (only truth) truth = refl
-meets-allows (only truth) (list Ram) = refl
-meets-allows (only truth) (list Guard) = refl
-meets-allows (only (list Ram)) truth = refl
-meets-allows (only (list Ram)) (list Ram) = refl
-meets-allows (only (list Ram)) (list Guard) = refl
-meets-allows (only (list Guard)) truth = refl
-meets-allows (only (list Guard)) (list Ram) = refl
-meets-allows (only (list Guard)) (list Guard) = refl
-meets-allows anyList truth = refl
-meets-allows anyList (list Ram) = refl
-meets-allows anyList (list Guard) = refl
-
-truth-demanded : (δ : Demand) → eqb (demandNumber δ) truthKind ≡ allows δ truth
-truth-demanded (only truth) = refl
-truth-demanded (only (list Ram)) = refl
-truth-demanded (only (list Guard)) = refl
-truth-demanded anyList = refl
+pub kind-demand : (k g i : ℕ) → demandNumber (only (kindAt k g i)) ≡ demandFor (kindOf k g i)
+kind-demand k g i = go (bitOf i k) (bitOf i g)
+  where
+    go : (a b : Bool) → demandNumber (only (cond a (list (cond b Guard Ram)) truth)) ≡ demandFor (kindBy a b)
+    go true true = refl
+    go true false = refl
+    go false b = refl
 
 -- ---- Places as numbers
 
-demand-small : (δ : Demand) → demandNumber δ < operandPart
+demand-small : (δ : Demand) → demandNumber δ < demands
 demand-small (only truth) = omega arith
 demand-small (only (list Ram)) = omega arith
 demand-small (only (list Guard)) = omega arith
 demand-small anyList = omega arith
 
 pub demand-in : (π : Place) → demandIn (placeNumber π) ≡ demandNumber (π .demand)
-demand-in π = go (π .fault) (demandNumber (π .demand)) (demand-small (π .demand))
-  where
-    go : (φ : Fault) (n : ℕ) → n < operandPart → demandIn (faultPart φ + n) ≡ n
-    go inResult n h = omega arith
-    go inOperand n h = omega arith
-    go inArgument n h = omega arith
+demand-in π = omega (arith, demand-small (π .demand))
 
-pub refusal-in : (π : Place) → refusalIn (placeNumber π) ≡ apart (π .fault)
-refusal-in π = go (π .fault) (demandNumber (π .demand)) (demand-small (π .demand))
-  where
-    go : (φ : Fault) (n : ℕ) → n < operandPart → refusalIn (faultPart φ + n) ≡ apart φ
-    go inResult n h = simp (lt-ltb (0 + n) operandPart (omega arith))
-    go inOperand n h = simp (le-ltb (operandPart + n) operandPart (omega arith), lt-ltb (operandPart + n) argumentPart (omega arith))
-    go inArgument n h = simp (le-ltb (argumentPart + n) operandPart (omega arith), le-ltb (argumentPart + n) argumentPart (omega arith))
+pub wrong-kind : (π : Place) → wrongKind (placeNumber π) ≡ stop (apart (π .fault))
+unfolding wrongKind stop
+wrong-kind π = omega (arith, demand-small (π .demand))
+
+-- the bits of the kinds are those of the demand
+kind-bit : (κ : Kind) (f n : ℕ) → n < demands → meets (demands * f + n) (kindNumber κ) ≡ meets n (kindNumber κ)
+unfolding bitOf
+kind-bit truth f n h = let same : (demands * f + n) / 1 % 2 ≡ n / 1 % 2 = omega arith in ap (λ (b : ℕ). eqb b 1) same
+kind-bit (list Ram) f n h = let same : (demands * f + n) / 2 % 2 ≡ n / 2 % 2 = omega arith in ap (λ (b : ℕ). eqb b 1) same
+kind-bit (list Guard) f n h = let same : (demands * f + n) / 4 % 2 ≡ n / 4 % 2 = omega arith in ap (λ (b : ℕ). eqb b 1) same
+
+demand-bit : (δ : Demand) (κ : Kind) → meets (demandNumber δ) (kindNumber κ) ≡ allows δ κ
+unfolding bitOf
+demand-bit (only truth) truth = refl
+demand-bit (only truth) (list Ram) = refl
+demand-bit (only truth) (list Guard) = refl
+demand-bit (only (list Ram)) truth = refl
+demand-bit (only (list Ram)) (list Ram) = refl
+demand-bit (only (list Ram)) (list Guard) = refl
+demand-bit (only (list Guard)) truth = refl
+demand-bit (only (list Guard)) (list Ram) = refl
+demand-bit (only (list Guard)) (list Guard) = refl
+demand-bit anyList truth = refl
+demand-bit anyList (list Ram) = refl
+demand-bit anyList (list Guard) = refl
+
+pub meets-allows : (π : Place) (κ : Kind) → meets (placeNumber π) (kindNumber κ) ≡ allows (π .demand) κ
+meets-allows π κ =
+    kind-bit κ (numberOf (apart (π .fault))) (demandNumber (π .demand)) (demand-small (π .demand)) ∙ demand-bit (π .demand) κ
 
 -- the kind of a parameter that is there
 pub kind-there : (k g i n j : ℕ) → j < n → getElem? (kindsFrom k g i n) j ≡ some (kindAt k g (i + j))
@@ -154,9 +161,8 @@ module _ {body : List ℕ} where
 
   step-demanded : {A : Type 0} {w : ℕ} {p : Parsed A} (π : Place) (κ : Kind) → Step body w p
       → Step body (whereMet (placeNumber π) (kindNumber κ) w) (demanded apart π κ p)
-  unfolding wrongKind
   step-demanded π κ s =
-      rw (demand-in π, refusal-in π, meets-allows (π .demand) κ) (step-allowed (allows (π .demand) κ) (apart (π .fault)) s)
+      rw (wrong-kind π, meets-allows π κ) (step-allowed (allows (π .demand) κ) (apart (π .fault)) s)
 
   -- a leaf
   leaf-step : {A : Type 0} (π : Place) (κ : Kind) (a : A) (at : ℕ) → at ≤ length body
@@ -181,13 +187,13 @@ module _ (s : Sort) (H : List Header) (F : Frame) (fits : Framed s H F) where
       (stays : (n : ℕ) (f : Refusal) → walk n (stop f) ≡ stop f)
       (agree : (π : Place) (at : ℕ) → at ≤ length (F .body) → Step (F .body) (walk (placeNumber π) at) (read π (drop at (F .body)))) where
     -- the place of an argument demands the kind that its bits say
-    kind-step : (k g i at : ℕ) → at ≤ length (F .body) → Step (F .body) (walk (argumentPart + kindOf k g i) at) (read (argumentPlace (kindAt k g i)) (drop at (F .body)))
-    kind-step k g i at h = rw (kind-number k g i) at (agree (argumentPlace (kindAt k g i)) at h)
+    kind-step : (k g i at : ℕ) → at ≤ length (F .body) → Step (F .body) (walk (faultPart inArgument + demandFor (kindOf k g i)) at) (read (argumentPlace (kindAt k g i)) (drop at (F .body)))
+    kind-step k g i at h = rw (kind-demand k g i) at (agree (argumentPlace (kindAt k g i)) at h)
 
     args-stay : (k g n i : ℕ) (f : Refusal) → argsWalked walk k g n i (stop f) ≡ stop f
     unfolding argsWalked
     args-stay k g zero i f = refl
-    args-stay k g (suc n) i f = rw (stays (argumentPart + kindOf k g i) f) (args-stay k g n (i + 1) f)
+    args-stay k g (suc n) i f = rw (stays (faultPart inArgument + demandFor (kindOf k g i)) f) (args-stay k g n (i + 1) f)
 
     args-step : (k g n i at : ℕ) → at ≤ length (F .body)
         → Step (F .body) (argsWalked walk k g n i at) (argsFrom read (kindsFrom k g i n) (drop at (F .body)))
@@ -240,9 +246,8 @@ module _ (s : Sort) (H : List Header) (F : Frame) (fits : Framed s H F) where
 
     tail-step : (π : Place) (at : ℕ) → at ≤ length (F .body)
         → Step (F .body) (tailWalked walk (placeNumber π) at) (opFrom apart tl read π (drop at (F .body)))
-    unfolding wrongKind
     tail-step π at h =
-        rw (demand-in π, refusal-in π, truth-demanded (π .demand))
+        rw (demand-in π, wrong-kind π, meets-allows π truth)
         (step-banned (allows (π .demand) truth) (apart (π .fault)) (step-part (op tl) (agree (operandPlace tl π) at h)))
 
     node-step : (π : Place) (at : ℕ) → at ≤ length (F .body) → (n : Node)

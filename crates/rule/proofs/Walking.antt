@@ -26,7 +26,8 @@ use Rattle.syntax.specs.declared.Node.{Node}
 use Rattle.syntax.specs.Limits.{mostFunctions, mostBytes}
 use Rattle.syntax.specs.Bytes.{nodeOf}
 use Rattle.syntax.specs.Kinds.{truthKind}
-use Rattle.rule.specs.Walk.{anyListDemand, operandPart, argumentPart, demandIn, meets, wrongKind, kindOf, Frame, atMostFour, firstStop, stop, ended, leafWalked, paramWalked, argsWalked, nodeWalked}
+use Rattle.rule.specs.Reading.{inOperand, inArgument}
+use Rattle.rule.specs.Walk.{anyListDemand, demandFor, faultPart, demandIn, meets, wrongKind, kindOf, Frame, atMostFour, firstStop, stop, ended, leafWalked, paramWalked, argsWalked, nodeWalked}
 use Rattle.rule.specs.Walk.{checkAt, readAt, tailAt, callWalkedAt}
 
 pub stop-above : (f : Refusal) → firstStop ≤ stop f
@@ -68,8 +69,8 @@ module _ (F : Frame) (d place at : ℕ) where
       go zero e = absurd (e refl)
       go (suc d) e = simp (lt-leb _ _ h, q, sub-one)
 
-  module _ {b : Bool} (e : b ≡ meets (demandIn place) truthKind) where
-    pub read-of : b ≡ true → {w : ℕ} → w ≡ checkAt F d (operandPart + anyListDemand) at → w ≡ readAt F d place at
+  module _ {b : Bool} (e : b ≡ meets place truthKind) where
+    pub read-of : b ≡ true → {w : ℕ} → w ≡ checkAt F d (faultPart inOperand + anyListDemand) at → w ≡ readAt F d place at
     unfolding readAt
     read-of q c = c ∙ simp (sym e ∙ q)
 
@@ -77,14 +78,13 @@ module _ (F : Frame) (d place at : ℕ) where
     unfolding readAt
     read-not q = simp (sym e ∙ q)
 
-  module _ {demand : ℕ} (e : demand ≡ demandIn place) where
-    pub tail-of : (demand ≡ truthKind → ⊥) → {w : ℕ} → w ≡ checkAt F d (operandPart + demand) at → w ≡ tailAt F d place at
+    pub tail-of : b ≡ false → {w : ℕ} → w ≡ checkAt F d (faultPart inOperand + demandIn place) at → w ≡ tailAt F d place at
     unfolding tailAt
-    tail-of h c = c ∙ simp (sym e, ne-eqb _ _ h)
+    tail-of q c = c ∙ simp (sym e ∙ q)
 
-    pub tail-not : demand ≡ truthKind → tailAt F d place at ≡ wrongKind place
+    pub tail-not : b ≡ true → tailAt F d place at ≡ wrongKind place
     unfolding tailAt
-    tail-not h = simp (sym e, eq-eqb _ _ h)
+    tail-not q = simp (sym e ∙ q)
 
   module _ (f : ℕ) where
     pub call-none : F .functions ≤ f → callWalkedAt F d place at f ≡ stop UnknownByte
@@ -92,7 +92,7 @@ module _ (F : Frame) (d place at : ℕ) where
     call-none h = simp (le-leb _ _ h)
 
     module _ {kinds guard : ℕ} (k : kinds ≡ getD (F .kinds) f 0) (g : guard ≡ getD (F .guards) f 0) {result : ℕ} {b : Bool} (h : f < F .functions)
-        (e : result ≡ kindOf kinds guard 4) (q : b ≡ meets (demandIn place) result) where
+        (e : result ≡ kindOf kinds guard 4) (q : b ≡ meets place result) where
       pub call-not : b ≡ false → callWalkedAt F d place at f ≡ wrongKind place
       unfolding callWalkedAt
       call-not z = simp (lt-leb _ _ h, sym k, sym g, sym e, sym q ∙ z)
@@ -129,14 +129,14 @@ module _ {walk : ℕ → ℕ → ℕ} {ks gs left at i m : ℕ} (u : Along walk 
   unfolding argsWalked
   along-end h = let z : left - i ≡ 0 = omega arith in sym (u .rest) ∙ ap (λ (k : ℕ). argsWalked walk ks gs k i m) z
 
-  pub along-more : i < left → {κ n : ℕ} → κ ≡ kindOf ks gs i → n ≡ walk (argumentPart + κ) m → Along walk ks gs left at (i + 1) n
+  pub along-more : i < left → {δ n : ℕ} → δ ≡ demandFor (kindOf ks gs i) → n ≡ walk (faultPart inArgument + δ) m → Along walk ks gs left at (i + 1) n
   unfolding argsWalked
-  along-more h {κ} {n} e q =
+  along-more h {δ} {n} e q =
       let z : left - i ≡ suc (left - (i + 1)) = omega arith in
       record {
         below = omega arith;
         rest =
-            ap (argsWalked walk ks gs (left - (i + 1)) (i + 1)) (q ∙ ap (λ (k : ℕ). walk (argumentPart + k) m) e)
+            ap (argsWalked walk ks gs (left - (i + 1)) (i + 1)) (q ∙ ap (λ (k : ℕ). walk (faultPart inArgument + k) m) e)
             ∙ ap (λ (k : ℕ). argsWalked walk ks gs k i m) (sym z)
             ∙ u .rest;
       }

@@ -1,20 +1,21 @@
 -- A mirror of the code: expressions checked by positions in a body, with kinds and places as numbers; functions by their places.
 -- What a walk comes to is one number: a position in the body, or a refusal, which is above all positions.
 -- No reader need believe it: proofs/ shows that it comes to what Reading says.
-use Prim.Native.Nat.{ℕ, zero, suc, _+_, _-_, _%_, _<_, _≤_}
-use mathlib.Core.Bool.{Bool, not, _&&_, _||_, cond}
+use Prim.Native.Nat.{ℕ, zero, suc, _+_, _-_, _*_, _/_, _%_, _<_, _≤_}
+use mathlib.Core.Bool.{Bool, _&&_, cond}
 use mathlib.Core.List.{List, [], _∷_, map}
 use lib.Dec.{ltb, leb, eqb}
 use lib.ListN.{length, getD, take, drop}
 use Rattle.refusal.specs.declared.Refusal.{Refusal}
-use Rattle.refusal.specs.declared.Refusal.the-variants.{BodyEnds, TooDeep, ListConstructor, UnknownByte, WrongKind, OperandKind, ArgumentKind, BytesAfterExpression}
+use Rattle.refusal.specs.declared.Refusal.the-variants.{BodyEnds, TooDeep, ListConstructor, UnknownByte, BytesAfterExpression}
 use Rattle.refusal.specs.declared.Check.{Check}
 use Rattle.refusal.specs.declared.Check.the-variants as check
 use Rattle.refusal.specs.{numberOf, checkOf, _then_}
 use Rattle.trace.specs.{bitOf}
 use Rattle.semantics.specs.declared.Sort.{Sort}
 use Rattle.semantics.specs.declared.Sort.the-variants.{One, Two}
-use Rattle.semantics.specs.Language.{Demand, only, anyList}
+use Rattle.semantics.specs.declared.Contact.the-variants.{Ram, Guard}
+use Rattle.semantics.specs.Language.{truth, list, Demand, only, anyList}
 use Rattle.syntax.specs.declared.Node.{Node}
 use Rattle.syntax.specs.declared.Node.the-variants as node
 use Rattle.rule.specs.declared.Outline.{Outline}
@@ -22,47 +23,50 @@ use Rattle.rule.specs.declared.functions.Scan.{Scan}
 use Rattle.syntax.specs.Limits.{mostFunctions, mostParams, mostDepth, mostBytes}
 use Rattle.rule.specs.Form.{padded}
 use Rattle.syntax.specs.Bytes.{headerBytes, nodeOf}
-use Rattle.syntax.specs.Kinds.{truthKind, ramKind, guardKind, kindNumber, kindBy}
-use Rattle.rule.specs.Reading.{Parsed, got, refused, Raw, Fault, inResult, inOperand, inArgument, Place}
+use Rattle.syntax.specs.Kinds.{truthKind, ramKind, guardKind, kindBy}
+use Rattle.rule.specs.Reading.{Parsed, got, refused, Raw, Fault, inResult, inOperand, inArgument, Place, apart}
 use Rattle.rule.specs.Outline.{outlineOf}
 
--- what a place demands as a number: that of a kind, or this one for a list of either contact
+-- what a place demands as a number: bit i is set where a node of the kind with number i may stand
+abbrev pub truthDemand : ℕ
+truthDemand = 1
+
+abbrev pub ramDemand : ℕ
+ramDemand = 2
+
+abbrev pub guardDemand : ℕ
+guardDemand = 4
+
 abbrev pub anyListDemand : ℕ
-anyListDemand = 3
+anyListDemand = 6
 
 abbrev pub demandNumber : Demand → ℕ
-demandNumber (only κ) = kindNumber κ
+demandNumber (only truth) = truthDemand
+demandNumber (only (list Ram)) = ramDemand
+demandNumber (only (list Guard)) = guardDemand
 demandNumber anyList = anyListDemand
 
--- what a place adds to the number of its demand: which fault a node of another kind is there
-abbrev pub resultPart : ℕ
-resultPart = 0
+-- that of one kind, by its number
+abbrev pub demandFor : ℕ → ℕ
+demandFor kind = cond (eqb kind truthKind) truthDemand (cond (eqb kind ramKind) ramDemand guardDemand)
 
-abbrev pub operandPart : ℕ
-operandPart = 4
-
-abbrev pub argumentPart : ℕ
-argumentPart = 8
+-- what a place adds to the number of its demand, which is below 8: eight times the number that refuses a node of another kind
+abbrev pub demands : ℕ
+demands = 8
 
 abbrev pub faultPart : Fault → ℕ
-faultPart inResult = resultPart
-faultPart inOperand = operandPart
-faultPart inArgument = argumentPart
+faultPart φ = demands * numberOf (apart φ)
 
 -- a place as one number
 abbrev pub placeNumber : Place → ℕ
 placeNumber π = faultPart (π .fault) + demandNumber (π .demand)
 
--- the demand and the refusal that such a number says
+-- the demand that such a number says, and whether a node of a kind may stand there
 abbrev pub demandIn : ℕ → ℕ
-demandIn place = place % operandPart
+demandIn place = place % demands
 
-abbrev pub refusalIn : ℕ → Refusal
-refusalIn place = cond (ltb place operandPart) WrongKind (cond (ltb place argumentPart) OperandKind ArgumentKind)
-
--- whether a node of a kind may stand where there is a demand
 abbrev pub meets : ℕ → ℕ → Bool
-meets demand kind = eqb demand kind || (eqb demand anyListDemand && not (eqb kind truthKind))
+meets place kind = bitOf kind place
 
 -- the kind at place i of a header
 abbrev pub kindOf : ℕ → ℕ → ℕ → ℕ
@@ -84,11 +88,11 @@ ended at = cond (ltb at firstStop) (stop BodyEnds) at
 
 -- what a node of the wrong kind comes to
 unfoldable pub wrongKind : ℕ → ℕ
-wrongKind place = stop (refusalIn place)
+wrongKind place = firstStop + place / demands
 
 -- what comes of a node of a kind, where it meets the demand of its place
 abbrev pub whereMet : ℕ → ℕ → ℕ → ℕ
-whereMet place kind w = cond (meets (demandIn place) kind) w (wrongKind place)
+whereMet place kind w = cond (meets place kind) w (wrongKind place)
 
 unfoldable pub leafWalked : ℕ → ℕ → ℕ → ℕ
 leafWalked place kind next = whereMet place kind next
@@ -174,10 +178,10 @@ pub record Sized (F : Frame) : Type 0 where
 -- so many arguments, from argument i on
 unfoldable pub argsWalked : (ℕ → ℕ → ℕ) → ℕ → ℕ → ℕ → ℕ → ℕ → ℕ
 argsWalked walk kinds guard zero i at = at
-argsWalked walk kinds guard (suc n) i at = argsWalked walk kinds guard n (i + 1) (walk (argumentPart + kindOf kinds guard i) at)
+argsWalked walk kinds guard (suc n) i at = argsWalked walk kinds guard n (i + 1) (walk (faultPart inArgument + demandFor (kindOf kinds guard i)) at)
 
 abbrev pub armsWalked : (ℕ → ℕ → ℕ) → ℕ → ℕ → ℕ
-armsWalked walk place at = walk place (walk place (walk (operandPart + truthKind) at))
+armsWalked walk place at = walk place (walk place (walk (faultPart inOperand + truthDemand) at))
 
 abbrev pub callWalked : Frame → (ℕ → ℕ → ℕ) → ℕ → ℕ → ℕ → ℕ
 callWalked F walk place at g =
@@ -188,11 +192,11 @@ callWalked F walk place at g =
 
 -- hd or null: a Bool, of a list of either contact
 abbrev pub readWalked : (ℕ → ℕ → ℕ) → ℕ → ℕ → ℕ
-readWalked walk place at = whereMet place truthKind (walk (operandPart + anyListDemand) at)
+readWalked walk place at = whereMet place truthKind (walk (faultPart inOperand + anyListDemand) at)
 
 -- tl: a list of the contact that is demanded
 abbrev pub tailWalked : (ℕ → ℕ → ℕ) → ℕ → ℕ → ℕ
-tailWalked walk place at = cond (eqb (demandIn place) truthKind) (wrongKind place) (walk (operandPart + demandIn place) at)
+tailWalked walk place at = cond (meets place truthKind) (wrongKind place) (walk (faultPart inOperand + demandIn place) at)
 
 abbrev pub nodeWalked : Frame → (ℕ → ℕ → ℕ) → ℕ → ℕ → Node → ℕ
 nodeWalked F walk place at node.False = leafWalked place truthKind at
@@ -236,7 +240,7 @@ bodyEnd len w =
 
 -- a whole body
 unfoldable pub bodyAt : Frame → Check
-bodyAt F = bodyEnd (length (F .body)) (checkAt F mostDepth (resultPart + kindOf (F .ownKinds) (F .ownGuard) 4) 0)
+bodyAt F = bodyEnd (length (F .body)) (checkAt F mostDepth (faultPart inResult + demandFor (kindOf (F .ownKinds) (F .ownGuard) 4)) 0)
 
 -- what the check of body i works on
 abbrev pub frameAt : List ℕ → Sort → ℕ → List ℕ → List ℕ → List ℕ → List ℕ → List ℕ → ℕ → Frame

@@ -9,23 +9,32 @@ use syntax::TRUTH;
 use syntax::node_of;
 ghost use mathlib.Core.Path.{_≡_};
 ghost use Prim.Native.Nat.{_<_, _≤_};
-ghost use Rattle.rule.specs.Walk.{anyListDemand, demandIn, wrongKind, meets, kindOf, leafWalked, paramWalked, guardEmptyWalked, atMostFour, frameIn, Sized, stop, ended};
-ghost use Rattle.syntax.specs.Kinds.{guardKind};
+ghost use Rattle.rule.specs.Walk.{guardDemand, demandFor, wrongKind, meets, kindOf, leafWalked, paramWalked, guardEmptyWalked, atMostFour, frameIn, Sized, stop, ended};
 ghost use Rattle.rule.specs.Walk.{checkAt, readAt, tailAt, armsAt, callWalkedAt};
 
 // The numbers from here on stand for refusals: no position in a body is so great.
 pub const STOPS: usize = 65536;
 
-// What a place demands is the number of a kind, or this one for a list of either contact.
-const ANY_LIST: u8 = 3;
+// What a place demands is a number with bit i set where a node of the kind with number i may stand: a Bool, a list of the
+// ram, one of the guard, one of either.
+const ONLY_TRUTH: usize = 1;
 
-// A place of an expression is one number: that of its demand, and one of these, which says how a node of another kind is told
-// there: as a fault in a body's result (16), in an operand of hd, tl, null or a condition (25), in an argument (26).
-pub const RESULT: u8 = 0;
+const ONLY_RAM: usize = 2;
 
-const OPERAND: u8 = 4;
+const ONLY_GUARD: usize = 4;
 
-const ARGUMENT: u8 = 8;
+const ANY_LIST: usize = 6;
+
+// Demands are below this.
+const DEMANDS: usize = 8;
+
+// A place of an expression is one number: that of its demand, and eight times the number that refuses a node of another kind
+// there. That is 16 in a body's result, 25 in an operand of hd, tl, null or a condition, 26 in an argument.
+pub const RESULT: usize = 128;
+
+const OPERAND: usize = 200;
+
+const ARGUMENT: usize = 208;
 
 // An array of headers: from 0 on the functions' counts of parameters, from KINDS on their kinds bytes, from GUARDS on
 // their guard bytes, then how many functions there are, the count, the kinds byte and the guard byte of the function whose
@@ -48,7 +57,7 @@ pub const HEADS: usize = 101;
 
 // The position after the expression at a position in a body, with so much depth left, if it meets what its place demands; or
 // its refusal. Where `at` is a refusal, it is the answer.
-pub fn check(body: &&[u8], heads: &[u8; HEADS], place: u8, depth: u8, at: usize) -> usize
+pub fn check(body: &&[u8], heads: &[u8; HEADS], place: usize, depth: usize, at: usize) -> usize
     requires { ⌜ Sized (frameIn (now (now body)) (now heads)) ⌝ }
     ensures { λ r. ⌜ r ≡ checkAt (frameIn (now (now (body .entry))) (now (heads .entry))) depth place at ⌝ }
 {
@@ -102,21 +111,14 @@ fn after_end(at: usize) -> usize
 }
 
 // What a node comes to whose kind its place does not allow.
-fn wrong_kind(place: u8) -> usize
+fn wrong_kind(place: usize) -> usize
     ensures { λ r. ⌜ r ≡ wrongKind place ⌝ }
 {
-    if place < OPERAND {
-        return refused(Refusal::WrongKind);
-    }
-    if place < ARGUMENT {
-        refused(Refusal::OperandKind)
-    } else {
-        refused(Refusal::ArgumentKind)
-    }
+    STOPS + place / DEMANDS
 }
 
 // A node with no operands.
-fn leaf(place: u8, kind: u8, next: usize) -> usize
+fn leaf(place: usize, kind: u8, next: usize) -> usize
     ensures { λ r. ⌜ r ≡ leafWalked place kind next ⌝ }
 {
     if allowed(place, kind) {
@@ -127,7 +129,7 @@ fn leaf(place: u8, kind: u8, next: usize) -> usize
 }
 
 // The empty guard list, of a program with so many contacts.
-fn guard_empty(contacts: u8, place: u8, next: usize) -> usize
+fn guard_empty(contacts: u8, place: usize, next: usize) -> usize
     ensures { λ r. ⌜ r ≡ guardEmptyWalked contacts place next ⌝ }
 {
     if contacts == 2 {
@@ -138,7 +140,7 @@ fn guard_empty(contacts: u8, place: u8, next: usize) -> usize
 }
 
 // Parameter i of the function whose body is checked.
-fn param(own_params: u8, own_kinds: u8, own_guard: u8, place: u8, i: u8, next: usize) -> usize
+fn param(own_params: u8, own_kinds: u8, own_guard: u8, place: usize, i: u8, next: usize) -> usize
     ensures { λ r. ⌜ r ≡ paramWalked «own_params» «own_kinds» «own_guard» place i next ⌝ }
 {
     if i < own_params {
@@ -149,7 +151,7 @@ fn param(own_params: u8, own_kinds: u8, own_guard: u8, place: u8, i: u8, next: u
 }
 
 // hd or null: a Bool, of a list of either contact.
-fn reading(body: &&[u8], heads: &[u8; HEADS], place: u8, depth: u8, at: usize) -> usize
+fn reading(body: &&[u8], heads: &[u8; HEADS], place: usize, depth: usize, at: usize) -> usize
     requires { ⌜ Sized (frameIn (now (now body)) (now heads)) ⌝ }
     ensures { λ r. ⌜ r ≡ readAt (frameIn (now (now (body .entry))) (now (heads .entry))) depth place at ⌝ }
 {
@@ -161,13 +163,12 @@ fn reading(body: &&[u8], heads: &[u8; HEADS], place: u8, depth: u8, at: usize) -
 }
 
 // tl: a list of the contact that is demanded.
-fn tail(body: &&[u8], heads: &[u8; HEADS], place: u8, depth: u8, at: usize) -> usize
+fn tail(body: &&[u8], heads: &[u8; HEADS], place: usize, depth: usize, at: usize) -> usize
     requires { ⌜ Sized (frameIn (now (now body)) (now heads)) ⌝ }
     ensures { λ r. ⌜ r ≡ tailAt (frameIn (now (now (body .entry))) (now (heads .entry))) depth place at ⌝ }
 {
-    let demand = demand_of(place);
-    let operand = OPERAND + demand;
-    if demand == TRUTH {
+    let operand = OPERAND + place % DEMANDS;
+    if allowed(place, TRUTH) {
         wrong_kind(place)
     } else {
         check(body, heads, operand, depth, at)
@@ -175,17 +176,24 @@ fn tail(body: &&[u8], heads: &[u8; HEADS], place: u8, depth: u8, at: usize) -> u
 }
 
 // A condition and two branches.
-fn arms(body: &&[u8], heads: &[u8; HEADS], place: u8, depth: u8, at: usize) -> usize
+fn arms(body: &&[u8], heads: &[u8; HEADS], place: usize, depth: usize, at: usize) -> usize
     requires { ⌜ Sized (frameIn (now (now body)) (now heads)) ⌝ }
     ensures { λ r. ⌜ r ≡ armsAt (frameIn (now (now (body .entry))) (now (heads .entry))) depth place at ⌝ }
 {
-    let second = check(body, heads, OPERAND + TRUTH, depth, at);
+    let second = check(body, heads, OPERAND + ONLY_TRUTH, depth, at);
     let third = check(body, heads, place, depth, second);
     check(body, heads, place, depth, third)
 }
 
 // A call of a function, with its arguments.
-fn call(body: &&[u8], heads: &[u8; HEADS], place: u8, depth: u8, at: usize, callee: u8) -> usize
+fn call(
+    body: &&[u8],
+    heads: &[u8; HEADS],
+    place: usize,
+    depth: usize,
+    at: usize,
+    callee: u8,
+) -> usize
     requires { ⌜ Sized (frameIn (now (now body)) (now heads)) ⌝ }
     ensures { λ r. ⌜ r ≡ callWalkedAt (frameIn (now (now (body .entry))) (now (heads .entry))) depth place at callee ⌝ }
 {
@@ -200,7 +208,7 @@ fn call(body: &&[u8], heads: &[u8; HEADS], place: u8, depth: u8, at: usize, call
         let mut i: u64 = 0;
         let mut next = at;
         while i < count {
-            let argument = ARGUMENT + kind(kinds, guard, i);
+            let argument = ARGUMENT + demand_for(kind(kinds, guard, i));
             next = check(body, heads, argument, depth, next);
             i += 1;
         }
@@ -210,31 +218,26 @@ fn call(body: &&[u8], heads: &[u8; HEADS], place: u8, depth: u8, at: usize, call
     }
 }
 
-// What a place demands.
-fn demand_of(place: u8) -> u8
-    ensures { λ r. ⌜ (r ≡ demandIn place) × (r ≤ anyListDemand) ⌝ }
+// Whether a node of a kind may stand at a place.
+fn allowed(place: usize, kind: u8) -> bool
+    ensures { λ r. ⌜ r ≡ meets place kind ⌝ }
 {
-    place % OPERAND
+    trace::bit(place as u64, kind as u64)
 }
 
-// Whether a node of a kind may stand at a place.
-fn allowed(place: u8, kind: u8) -> bool
-    ensures { λ r. ⌜ r ≡ meets (demandIn place) kind ⌝ }
+// The demand of one kind.
+pub fn demand_for(kind: u8) -> usize
+    ensures { λ r. ⌜ (r ≡ demandFor kind) × (r ≤ guardDemand) ⌝ }
 {
-    let demand = demand_of(place);
-    if demand == kind {
-        return true;
+    if kind == TRUTH {
+        return ONLY_TRUTH;
     }
-    if demand == ANY_LIST {
-        kind != TRUTH
-    } else {
-        false
-    }
+    if kind == RAM { ONLY_RAM } else { ONLY_GUARD }
 }
 
 // The kind at a place of a header: of parameter i, and at 4 of the result.
 pub fn kind(kinds: u8, guard: u8, i: u64) -> u8
-    ensures { λ r. ⌜ (r ≡ kindOf kinds guard i) × (r ≤ guardKind) ⌝ }
+    ensures { λ r. ⌜ r ≡ kindOf kinds guard i ⌝ }
 {
     syntax::kind_by(trace::bit(kinds as u64, i), trace::bit(guard as u64, i))
 }

@@ -255,8 +255,8 @@ fn check_body(body: &[u8], heads: &[u8; HEADS]) -> Check
         heads[expression::OWN_GUARD],
         4,
     );
-    let place = expression::RESULT + result;
-    let end = expression::check(&body, heads, place, syntax::MOST_DEPTH, 0);
+    let place = expression::RESULT + expression::demand_for(result);
+    let end = expression::check(&body, heads, place, syntax::MOST_DEPTH as usize, 0);
     if expression::STOPS <= end {
         return refusal::numbered(end - expression::STOPS);
     }

@@ -6,7 +6,7 @@ use denote.Ref.{now}
 use borrow.Author.Needs.{needs}
 use Rattle.syntax.specs.declared.Node.{Node}
 use Rattle.syntax.specs.Limits.{mostFunctions}
-use Rattle.rule.specs.Walk.{kindsPlace, guardsPlace, frameIn, atMostFour, checkAt, readAt, tailAt, armsAt, callWalkedAt, nodeWalked}
+use Rattle.rule.specs.Walk.{kindsPlace, guardsPlace, frameIn, demandFor, atMostFour, checkAt, readAt, tailAt, armsAt, callWalkedAt, nodeWalked}
 use Rattle.rule.proofs.Walking.{params-in, header-in, check-end, check-deep, check-node, read-of, read-not, tail-of, tail-not, call-none, call-not, call-args}
 use Rattle.rule.proofs.Walking.{Along, along-start, along-end, along-more}
 use borrow.Fn.Kinds.{In}
@@ -29,7 +29,7 @@ use Rattle.rule.proofs.expression.+arms+call+check+reading+tail.Lts-tai
 use Rattle.rule.proofs.expression.after_end.Reads as after-end-reads
 use Rattle.rule.proofs.expression.allowed.Reads as allowed-reads
 use Rattle.rule.proofs.expression.at_most_four.Reads as at-most-four-reads
-use Rattle.rule.proofs.expression.demand_of.Reads as demand-of-reads
+use Rattle.rule.proofs.expression.demand_for.Reads as demand-for-reads
 use Rattle.rule.proofs.expression.guard_empty.Reads as guard-empty-reads
 use Rattle.rule.proofs.expression.kind.Reads as kind-reads
 use Rattle.rule.proofs.expression.leaf.Reads as leaf-reads
@@ -98,6 +98,8 @@ call-claims t = (
   allowed-reads.Learnt,
   at-most-four-reads.Asked,
   at-most-four-reads.Learnt,
+  demand-for-reads.Asked,
+  demand-for-reads.Learnt,
   check-below t,
   check.Post,
   wrong-kind-reads.Asked,
@@ -133,8 +135,8 @@ reading-claims t = (allowed-reads.Asked, allowed-reads.Learnt, check-below t, ch
 
 abbrev tail-claims : ℕ → tail-lts.Claims
 tail-claims t = (
-  demand-of-reads.Asked,
-  demand-of-reads.Learnt,
+  allowed-reads.Asked,
+  allowed-reads.Learnt,
   wrong-kind-reads.Asked,
   wrong-kind-reads.Learnt,
   check-below t,
@@ -213,11 +215,15 @@ call-loop-holds t c = along-start _ _ _ _ _
 call-kind-requires-2 : (t : ℕ) → call-lts.Need-kind-requires-2 (call-claims t) (call-at t) call.Post call-Inv-loop call-μ-loop
 call-kind-requires-2 t c κs = search needs
 
+call-demand-for-requires : (t : ℕ) → call-lts.Need-demand-for-requires (call-claims t) (call-at t) call.Post call-Inv-loop call-μ-loop
+call-demand-for-requires t c κs = search needs
+
 call-add-argument : (t : ℕ) → call-lts.Need-add-argument (call-claims t) (call-at t) call.Post call-Inv-loop call-μ-loop
-call-add-argument t c = omega (arith, c .kind2 .ensures .1)
+call-add-argument t c = omega (arith, c .demand-for .ensures .1)
 
 call-check-requires : (t : ℕ) → call-lts.Need-check-requires (call-claims t) (call-at t) call.Post call-Inv-loop call-μ-loop
-call-check-requires t c κs = (omega arith, c .before .before .before .before .before .before .before .before .before .before .before .before .pre .1)
+call-check-requires t c κs =
+    (omega arith, c .before .before .before .before .before .before .before .before .before .before .before .before .before .pre .1)
 
 call-add-i : (t : ℕ) → call-lts.Need-add-i (call-claims t) (call-at t) call.Post call-Inv-loop call-μ-loop
 call-add-i t c = omega arith
@@ -227,7 +233,8 @@ call-loop-less t c = omega arith
 
 call-loop-again : (t : ℕ) → call-lts.Need-loop-again (call-claims t) (call-at t) call.Post call-Inv-loop call-μ-loop
 call-loop-again t c =
-    along-more (c .before .before .before .loop .inv) (c .before .before .loop-test .taken) (c .before .kind2 .ensures .0) (c .check .ensures)
+    along-more (c .before .before .before .before .loop .inv) (c .before .before .before .loop-test .taken)
+    (c .before .demand-for .ensures .0 ∙ ap demandFor (c .before .before .kind2 .ensures)) (c .check .ensures)
 
 call-wrong-kind-requires : (t : ℕ) → call-lts.Need-wrong-kind-requires (call-claims t) (call-at t) call.Post call-Inv-loop call-μ-loop
 call-wrong-kind-requires t c κs = search needs
@@ -240,7 +247,7 @@ call-returns-2 t c =
     sym
     (call-args _ _ _ _ _ (header-in (a .heads .now) (a .callee) below kindsPlace) (header-in (a .heads .now) (a .callee) below guardsPlace)
     (c .before .before .before .before .before .before .before .before .before .if1 .left)
-    (c .before .before .before .before .before .before .kind .ensures .0) (c .before .before .before .before .before .allowed .ensures)
+    (c .before .before .before .before .before .before .kind .ensures) (c .before .before .before .before .before .allowed .ensures)
     (c .before .before .before .before .if2 .taken)
     (c .before .before .at-most-four .ensures .0 ∙ ap atMostFour (params-in (a .heads .now) (a .callee) below))
     ∙ along-end (c .before .loop .inv) (c .loop-test .left))
@@ -253,7 +260,7 @@ call-returns-3 t c =
     c .wrong-kind .ensures
     ∙ sym
     (call-not _ _ _ _ _ (header-in (a .heads .now) (a .callee) below kindsPlace) (header-in (a .heads .now) (a .callee) below guardsPlace)
-    (c .before .before .before .before .before .before .if1 .left) (c .before .before .before .kind .ensures .0) (c .before .before .allowed .ensures)
+    (c .before .before .before .before .before .before .if1 .left) (c .before .before .before .kind .ensures) (c .before .before .allowed .ensures)
     (c .before .if2 .left))
 
 check-after-end-requires : (t : ℕ) → check-lts.Need-after-end-requires (check-claims t) (check-at t) check.Post
@@ -425,11 +432,11 @@ reading-returns t c = read-of _ _ _ _ (c .before .before .allowed .ensures) (c .
 reading-returns-2 : (t : ℕ) → reading-lts.Need-returns-2 (reading-claims t) (reading-at t) reading.Post
 reading-returns-2 t c = c .wrong-kind .ensures ∙ sym (read-not _ _ _ _ (c .before .before .allowed .ensures) (c .before .if1 .left))
 
-tail-demand-of-requires : (t : ℕ) → tail-lts.Need-demand-of-requires (tail-claims t) (tail-at t) tail.Post
-tail-demand-of-requires t c κs = search needs
-
 tail-add-operand : (t : ℕ) → tail-lts.Need-add-operand (tail-claims t) (tail-at t) tail.Post
-tail-add-operand t c = omega (arith, c .demand-of .ensures .1)
+tail-add-operand t c = omega arith
+
+tail-allowed-requires : (t : ℕ) → tail-lts.Need-allowed-requires (tail-claims t) (tail-at t) tail.Post
+tail-allowed-requires t c κs = search needs
 
 tail-wrong-kind-requires : (t : ℕ) → tail-lts.Need-wrong-kind-requires (tail-claims t) (tail-at t) tail.Post
 tail-wrong-kind-requires t c κs = search needs
@@ -438,10 +445,10 @@ tail-check-requires : (t : ℕ) → tail-lts.Need-check-requires (tail-claims t)
 tail-check-requires t c κs = (omega arith, c .before .before .pre .1)
 
 tail-returns : (t : ℕ) → tail-lts.Need-returns (tail-claims t) (tail-at t) tail.Post
-tail-returns t c = c .wrong-kind .ensures ∙ sym (tail-not _ _ _ _ (c .before .before .demand-of .ensures .0) (c .before .if1 .taken))
+tail-returns t c = c .wrong-kind .ensures ∙ sym (tail-not _ _ _ _ (c .before .before .allowed .ensures) (c .before .if1 .taken))
 
 tail-returns-2 : (t : ℕ) → tail-lts.Need-returns-2 (tail-claims t) (tail-at t) tail.Post
-tail-returns-2 t c = tail-of _ _ _ _ (c .before .before .demand-of .ensures .0) (c .before .if1 .left) (c .check .ensures)
+tail-returns-2 t c = tail-of _ _ _ _ (c .before .before .allowed .ensures) (c .before .if1 .left) (c .check .ensures)
 
 pub +arms+call+check+reading+tail-spec : {M : Type 1} → statement M
 +arms+call+check+reading+tail-spec =
@@ -478,6 +485,7 @@ pub +arms+call+check+reading+tail-spec : {M : Type 1} → statement M
     (call-at-most-four-requires t)
     (call-loop-holds t)
     (call-kind-requires-2 t)
+    (call-demand-for-requires t)
     (call-add-argument t)
     (call-check-requires t)
     (call-add-i t)
@@ -550,8 +558,8 @@ pub +arms+call+check+reading+tail-spec : {M : Type 1} → statement M
     (tail-claims t)
     (tail-at t)
     tail.Post
-    (tail-demand-of-requires t)
     (tail-add-operand t)
+    (tail-allowed-requires t)
     (tail-wrong-kind-requires t)
     (tail-check-requires t)
     (tail-returns t)

@@ -13,7 +13,7 @@ kind-by-requires : tie.Need-kind-by-requires
 kind-by-requires c κs = search needs
 
 returns : tie.Need-returns
-returns c = (rw (← c .before .before .bit .ensures, ← c .before .bit2 .ensures) (c .kind-by .ensures .0), c .kind-by .ensures .1)
+returns c = rw (← c .before .before .bit .ensures, ← c .before .bit2 .ensures) (c .kind-by .ensures .0)
 
 pub kind-spec : {M : Type 1} → statement M
 kind-spec = tie.close (tie.spec bit-requires bit-requires-2 kind-by-requires returns)

@@ -15,7 +15,7 @@ refused-requires : tie.Need-refused-requires
 refused-requires c κs = search needs
 
 returns : tie.Need-returns
-returns c = param-there _ _ _ _ _ _ (c .before .before .if1 .taken) (c .before .kind .ensures .0) (c .leaf .ensures)
+returns c = param-there _ _ _ _ _ _ (c .before .before .if1 .taken) (c .before .kind .ensures) (c .leaf .ensures)
 
 returns-2 : tie.Need-returns-2
 returns-2 c = c .refused .ensures ∙ param-absent _ _ _ _ _ _ (c .before .if1 .left)

@@ -24,13 +24,13 @@ kind-requires : tie.Need-kind-requires
 kind-requires c κs = search needs
 
 returns : tie.Need-returns
-returns c = not-ram _ _ _ (c .before .before .args .sort) (c .before .kind .ensures .0) (c .if1 .taken)
+returns c = not-ram _ _ _ (c .before .before .args .sort) (c .before .kind .ensures) (c .if1 .taken)
 
 kind-requires-2 : tie.Need-kind-requires-2
 kind-requires-2 c κs = search needs
 
 returns-2 : tie.Need-returns-2
-returns-2 c = not-truth _ _ _ (c .before .before .before .before .args .sort) (c .before .kind2 .ensures .0) (c .if2 .taken)
+returns-2 c = not-truth _ _ _ (c .before .before .before .before .args .sort) (c .before .kind2 .ensures) (c .if2 .taken)
 
 enum-told : tie.Need-enum-told
 enum-told c = search needs
@@ -45,8 +45,8 @@ returns-3 : tie.Need-returns-3
 returns-3 c =
     simp (
       c .enum-told .given .1,
-      ← c .before .before .before .before .before .kind .ensures .0,
-      ← c .before .before .before .kind2 .ensures .0,
+      ← c .before .before .before .before .before .kind .ensures,
+      ← c .before .before .before .kind2 .ensures,
       eq-eqb _ _ (c .before .before .before .before .if1 .left),
       eq-eqb _ _ (c .before .before .if2 .left),
       and-true,
@@ -56,9 +56,9 @@ returns-4 : tie.Need-returns-4
 returns-4 c =
     simp (
       c .before .before .enum-told2 .given .1,
-      ← c .before .before .before .before .before .before .before .kind .ensures .0,
-      ← c .before .before .before .before .before .kind2 .ensures .0,
-      ← c .kind3 .ensures .0,
+      ← c .before .before .before .before .before .before .before .kind .ensures,
+      ← c .before .before .before .before .before .kind2 .ensures,
+      ← c .kind3 .ensures,
       eq-eqb _ _ (c .before .before .before .before .before .before .if1 .left),
       eq-eqb _ _ (c .before .before .before .before .if2 .left),
       eq-eqb _ _ (c .before .if3 .taken),
