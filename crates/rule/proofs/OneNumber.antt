@@ -26,7 +26,7 @@ use Rattle.syntax.specs.Bytes.{countIn, countFault, headerBytes, guardByteIn, k
 use Rattle.rule.specs.declared.Sorts.{Sorts}
 use Rattle.rule.specs.Reading.{Parsed, got, refused, onward, unlessFault, paramKinds, resultKind, Raw, rawFrom, rawsFrom, Fault, inResult, inOperand, inArgument, Place, bodyPlace, conditionPlace, operandPlace, argumentPlace, Reader, argsFrom, ifFrom}
 use Rattle.rule.specs.Reading.{apart, guardEmptyFrom, paramFrom, callFrom, opFrom, nodeFrom, exprFrom, wholeBody, functionsFrom, mainFirst, headers, bodiesFrom, takes, programSort, programBy, programFor, checkFrom, programCheck}
-use Rattle.rule.specs.OneNumber.{alike, programBefore, NoKindFault, Told, read, kindFault, other}
+use Rattle.rule.specs.OneNumber.{alike, programBefore, NoKindFault, Told, read, kindFault, other, SameFaults}
 
 -- ---- Refusals that are no kind faults
 
@@ -180,10 +180,6 @@ told-as-one sorts bs =
 
 -- ---- Where kind faults are met
 
--- refused today by 16, 25 or 26
-abbrev pub KindFault : Sorts → List ℕ → Type 0
-KindFault sorts bs = (φ : Fault) × (programCheck sorts bs ≡ check.Refused (apart φ))
-
 fault-before : {p q : Parsed Program} → Told p q → checkFrom q ≡ check.Refused WrongKind → (φ : Fault) × (checkFrom p ≡ check.Refused (apart φ))
 fault-before (read P rest) e = absurd (numbers.refused (sym e))
 fault-before (kindFault φ) e = (φ, refl)
@@ -194,11 +190,9 @@ fault-now (read P rest) φ e = absurd (numbers.refused (sym e))
 fault-now (kindFault φ′) φ e = refl
 fault-now (other f o) φ e = absurd (o φ (numbers.refused-same e))
 
-pub kind-faults : (sorts : Sorts) (bs : List ℕ)
-    → (checkFrom (programBefore sorts bs) ≡ check.Refused WrongKind → KindFault sorts bs)
-    × (KindFault sorts bs → checkFrom (programBefore sorts bs) ≡ check.Refused WrongKind)
+pub kind-faults : SameFaults
 unfolding programCheck
 kind-faults sorts bs = (
-  λ e. fault-before (told-as-one sorts bs) e,
   λ w. fault-now (told-as-one sorts bs) (w .0) (w .1),
+  λ e. fault-before (told-as-one sorts bs) e,
 )

@@ -33,7 +33,7 @@ use Rattle.syntax.specs.declared.Node.the-variants as node
 use Rattle.syntax.specs.declared.Header.{Header}
 use Rattle.syntax.specs.Limits.{mostParams, mostBytes}
 use Rattle.syntax.specs.Bytes.{nodeOf}
-use Rattle.syntax.specs.Kinds.{truthKind, kindNumber, kindBy}
+use Rattle.syntax.specs.Kinds.{kindNumber, kindBy}
 use Rattle.rule.specs.Reading.{Parsed, got, refused, onward, unlessFault, kindAt, kindsFrom, resultKind, inArgument, Place, conditionPlace, operandPlace, argumentPlace}
 use Rattle.rule.specs.Reading.{apart, demanded, Reader, argsFrom, guardEmptyFrom, paramFrom, callFrom, opFrom, ifFrom, nodeFrom, exprFrom}
 use Rattle.rule.specs.Walk.{demandNumber, demandFor, demands, faultPart, placeNumber, demandIn, meets, wrongKind, kindOf, atMostFour, firstStop, stop, ended, whereMet, leafWalked, paramWalked, guardEmptyWalked, Frame, contactsOf}
