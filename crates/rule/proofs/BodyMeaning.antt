@@ -26,7 +26,7 @@ use Rattle.syntax.specs.Kinds.{ramKind, guardKind, kindNumber}
 use Rattle.rule.specs.Reading.{Parsed, got, refused, onward, kindAt, kindsFrom, paramKinds, resultKind, Raw, exprFrom, wholeBody, functionFrom, functionsFrom, sameKinds, checkFrom, inResult, bodyPlace, apart}
 use Rattle.rule.specs.Walk.{demandFor, faultPart, kindOf, Frame, firstStop, checkAt, bodyEnd, bodyAt, bodiesAt, mainBits}
 use Rattle.rule.proofs.Walking.{stop-above, stop-back}
-use Rattle.rule.proofs.WalkMeaning.{Framed, Step, went, stopped, kind-number, kind-demand, ownOf, expr-step}
+use Rattle.rule.proofs.WalkMeaning.{Framed, Step, went, stopped, kind-number, ownOf, expr-step}
 
 -- ---- Bodies
 
@@ -57,7 +57,7 @@ body-means s H F x fit =
     let k = F .ownKinds in
     let g = F .ownGuard in
     let step : Step (F .body) (checkAt F mostDepth (faultPart inResult + demandFor (kindOf k g 4)) 0) (exprFrom apart s H (ownOf F) mostDepth (bodyPlace (kindAt k g 4)) (F .body)) =
-    rw (kind-demand k g 4) at (expr-step s H F (fit .framed) (fit .short) mostDepth (bodyPlace (kindAt k g 4)) 0 (omega arith)) in
+    rw (kind-number k g 4) at (expr-step s H F (fit .framed) (fit .short) mostDepth (bodyPlace (kindAt k g 4)) 0 (omega arith)) in
     rw (← fit .body, ← fit .params, ← fit .kinds, ← fit .guard) (end-means (F .body) _ (fit .short) _ _ step)
 
 -- ---- Functions

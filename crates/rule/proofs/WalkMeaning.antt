@@ -2,7 +2,7 @@
 --   Framed                       a frame that fits the headers of a program of a sort
 --   Step                         a walk and a reading that agree: the bytes after what was read are those at the position after it, or
 --                                both are refused
---   kind-number, kind-demand     kinds and their demands as numbers
+--   kind-number                  kinds as numbers
 --   demand-in, wrong-kind        the demand and the refusal of a place, by its number
 --   meets-allows                 the kinds that it allows
 --   at-most-four                 a number of parameters that is not refused
@@ -36,7 +36,7 @@ use Rattle.syntax.specs.Bytes.{nodeOf}
 use Rattle.syntax.specs.Kinds.{kindNumber, kindBy}
 use Rattle.rule.specs.Reading.{Parsed, got, refused, onward, unlessFault, kindAt, kindsFrom, resultKind, inArgument, Place, conditionPlace, operandPlace, argumentPlace}
 use Rattle.rule.specs.Reading.{apart, demanded, Reader, argsFrom, guardEmptyFrom, paramFrom, callFrom, opFrom, ifFrom, nodeFrom, exprFrom}
-use Rattle.rule.specs.Walk.{demandNumber, demandFor, demands, faultPart, placeNumber, demandIn, meets, wrongKind, kindOf, atMostFour, firstStop, stop, ended, whereMet, leafWalked, paramWalked, guardEmptyWalked, Frame, contactsOf}
+use Rattle.rule.specs.Walk.{demandNumber, demandFor, demandBound, faultPart, placeNumber, demandIn, meets, wrongKind, kindOf, atMostFour, firstStop, stop, ended, whereMet, leafWalked, paramWalked, guardEmptyWalked, Frame, contactsOf}
 use Rattle.rule.specs.Walk.{argsWalked, armsWalked, callWalked, readWalked, tailWalked, nodeWalked, checkAt}
 use Rattle.rule.proofs.Expressions.{place-below}
 use Rattle.rule.proofs.Walking.{check-stays}
@@ -48,7 +48,7 @@ pub record Framed (s : Sort) (H : List Header) (F : Frame) : Type 0 where
   pub heads : (g : ℕ) (h : Header) → getElem? H g ≡ some h
       → (getD (F .params) g 0 ≡ h .params) × (getD (F .kinds) g 0 ≡ h .kinds) × (getD (F .guards) g 0 ≡ h .guard) × (h .params ≤ mostParams)
 
--- ---- Kinds and demands as numbers
+-- ---- Kinds as numbers
 
 pub kind-number : (k g i : ℕ) → kindNumber (kindAt k g i) ≡ kindOf k g i
 kind-number k g i = go (bitOf i k) (bitOf i g)
@@ -57,55 +57,6 @@ kind-number k g i = go (bitOf i k) (bitOf i g)
     go true true = refl
     go true false = refl
     go false b = refl
-
-pub kind-demand : (k g i : ℕ) → demandNumber (only (kindAt k g i)) ≡ demandFor (kindOf k g i)
-kind-demand k g i = go (bitOf i k) (bitOf i g)
-  where
-    go : (a b : Bool) → demandNumber (only (cond a (list (cond b Guard Ram)) truth)) ≡ demandFor (kindBy a b)
-    go true true = refl
-    go true false = refl
-    go false b = refl
-
--- ---- Places as numbers
-
-demand-small : (δ : Demand) → demandNumber δ < demands
-demand-small (only truth) = omega arith
-demand-small (only (list Ram)) = omega arith
-demand-small (only (list Guard)) = omega arith
-demand-small anyList = omega arith
-
-pub demand-in : (π : Place) → demandIn (placeNumber π) ≡ demandNumber (π .demand)
-demand-in π = omega (arith, demand-small (π .demand))
-
-pub wrong-kind : (π : Place) → wrongKind (placeNumber π) ≡ stop (apart (π .fault))
-unfolding wrongKind stop
-wrong-kind π = omega (arith, demand-small (π .demand))
-
--- the bits of the kinds are those of the demand
-kind-bit : (κ : Kind) (f n : ℕ) → n < demands → meets (demands * f + n) (kindNumber κ) ≡ meets n (kindNumber κ)
-unfolding bitOf
-kind-bit truth f n h = let same : (demands * f + n) / 1 % 2 ≡ n / 1 % 2 = omega arith in ap (λ (b : ℕ). eqb b 1) same
-kind-bit (list Ram) f n h = let same : (demands * f + n) / 2 % 2 ≡ n / 2 % 2 = omega arith in ap (λ (b : ℕ). eqb b 1) same
-kind-bit (list Guard) f n h = let same : (demands * f + n) / 4 % 2 ≡ n / 4 % 2 = omega arith in ap (λ (b : ℕ). eqb b 1) same
-
-demand-bit : (δ : Demand) (κ : Kind) → meets (demandNumber δ) (kindNumber κ) ≡ allows δ κ
-unfolding bitOf
-demand-bit (only truth) truth = refl
-demand-bit (only truth) (list Ram) = refl
-demand-bit (only truth) (list Guard) = refl
-demand-bit (only (list Ram)) truth = refl
-demand-bit (only (list Ram)) (list Ram) = refl
-demand-bit (only (list Ram)) (list Guard) = refl
-demand-bit (only (list Guard)) truth = refl
-demand-bit (only (list Guard)) (list Ram) = refl
-demand-bit (only (list Guard)) (list Guard) = refl
-demand-bit anyList truth = refl
-demand-bit anyList (list Ram) = refl
-demand-bit anyList (list Guard) = refl
-
-pub meets-allows : (π : Place) (κ : Kind) → meets (placeNumber π) (kindNumber κ) ≡ allows (π .demand) κ
-meets-allows π κ =
-    kind-bit κ (numberOf (apart (π .fault))) (demandNumber (π .demand)) (demand-small (π .demand)) ∙ demand-bit (π .demand) κ
 
 -- the kind of a parameter that is there
 pub kind-there : (k g i n j : ℕ) → j < n → getElem? (kindsFrom k g i n) j ≡ some (kindAt k g (i + j))
@@ -129,6 +80,47 @@ absent-above : {A : Type 0} (l : List A) (i : ℕ) → getElem? l i ≡ none →
 absent-above [] i e = omega arith
 absent-above (x ∷ l) zero e = let z : _≡_ {A = ℕ} 0 1 = cc in absurd (omega arith)
 absent-above (x ∷ l) (suc i) e = omega (arith, absent-above l i e)
+
+-- ---- Places as numbers
+
+demand-small : (δ : Demand) → demandNumber δ < demandBound
+demand-small (only truth) = omega arith
+demand-small (only (list Ram)) = omega arith
+demand-small (only (list Guard)) = omega arith
+demand-small anyList = omega arith
+
+pub demand-in : (π : Place) → demandIn (placeNumber π) ≡ demandNumber (π .demand)
+demand-in π = omega (arith, demand-small (π .demand))
+
+pub wrong-kind : (π : Place) → wrongKind (placeNumber π) ≡ stop (apart (π .fault))
+unfolding wrongKind stop
+wrong-kind π = omega (arith, demand-small (π .demand))
+
+-- the bits of the kinds are those of the demand
+kind-bit : (κ : Kind) (f n : ℕ) → n < demandBound → meets (demandBound * f + n) (kindNumber κ) ≡ meets n (kindNumber κ)
+unfolding bitOf
+kind-bit truth f n h = let same : (demandBound * f + n) / 1 % 2 ≡ n / 1 % 2 = omega arith in ap (λ (b : ℕ). eqb b 1) same
+kind-bit (list Ram) f n h = let same : (demandBound * f + n) / 2 % 2 ≡ n / 2 % 2 = omega arith in ap (λ (b : ℕ). eqb b 1) same
+kind-bit (list Guard) f n h = let same : (demandBound * f + n) / 4 % 2 ≡ n / 4 % 2 = omega arith in ap (λ (b : ℕ). eqb b 1) same
+
+demand-bit : (δ : Demand) (κ : Kind) → meets (demandNumber δ) (kindNumber κ) ≡ allows δ κ
+unfolding bitOf
+demand-bit (only truth) truth = refl
+demand-bit (only truth) (list Ram) = refl
+demand-bit (only truth) (list Guard) = refl
+demand-bit (only (list Ram)) truth = refl
+demand-bit (only (list Ram)) (list Ram) = refl
+demand-bit (only (list Ram)) (list Guard) = refl
+demand-bit (only (list Guard)) truth = refl
+demand-bit (only (list Guard)) (list Ram) = refl
+demand-bit (only (list Guard)) (list Guard) = refl
+demand-bit anyList truth = refl
+demand-bit anyList (list Ram) = refl
+demand-bit anyList (list Guard) = refl
+
+pub meets-allows : (π : Place) (κ : Kind) → meets (placeNumber π) (kindNumber κ) ≡ allows (π .demand) κ
+meets-allows π κ =
+    kind-bit κ (numberOf (apart (π .fault))) (demandNumber (π .demand)) (demand-small (π .demand)) ∙ demand-bit (π .demand) κ
 
 -- ---- Walks and readings that agree
 
@@ -188,7 +180,7 @@ module _ (s : Sort) (H : List Header) (F : Frame) (fits : Framed s H F) where
       (agree : (π : Place) (at : ℕ) → at ≤ length (F .body) → Step (F .body) (walk (placeNumber π) at) (read π (drop at (F .body)))) where
     -- the place of an argument demands the kind that its bits say
     kind-step : (k g i at : ℕ) → at ≤ length (F .body) → Step (F .body) (walk (faultPart inArgument + demandFor (kindOf k g i)) at) (read (argumentPlace (kindAt k g i)) (drop at (F .body)))
-    kind-step k g i at h = rw (kind-demand k g i) at (agree (argumentPlace (kindAt k g i)) at h)
+    kind-step k g i at h = rw (kind-number k g i) at (agree (argumentPlace (kindAt k g i)) at h)
 
     args-stay : (k g n i : ℕ) (f : Refusal) → argsWalked walk k g n i (stop f) ≡ stop f
     unfolding argsWalked

@@ -241,6 +241,7 @@ programBy told sorts bs =
     (unlessFault (countFault (getD bs 0 0) || not (takes sorts (programSort bs))) FunctionCount
     (onward (rawsFrom (programSort bs) (countIn (getD bs 0 0)) (drop 1 bs)) (bodiesFrom told (programSort bs))))
 
+-- with the numbers of the list
 abbrev pub programFor : Sorts → List ℕ → Parsed Program
 programFor sorts bs = programBy apart sorts bs
 

@@ -14,8 +14,7 @@ use Rattle.refusal.specs.{numberOf, checkOf, _then_}
 use Rattle.trace.specs.{bitOf}
 use Rattle.semantics.specs.declared.Sort.{Sort}
 use Rattle.semantics.specs.declared.Sort.the-variants.{One, Two}
-use Rattle.semantics.specs.declared.Contact.the-variants.{Ram, Guard}
-use Rattle.semantics.specs.Language.{truth, list, Demand, only, anyList}
+use Rattle.semantics.specs.Language.{Demand, only, anyList}
 use Rattle.syntax.specs.declared.Node.{Node}
 use Rattle.syntax.specs.declared.Node.the-variants as node
 use Rattle.rule.specs.declared.Outline.{Outline}
@@ -23,7 +22,7 @@ use Rattle.rule.specs.declared.functions.Scan.{Scan}
 use Rattle.syntax.specs.Limits.{mostFunctions, mostParams, mostDepth, mostBytes}
 use Rattle.rule.specs.Form.{padded}
 use Rattle.syntax.specs.Bytes.{headerBytes, nodeOf}
-use Rattle.syntax.specs.Kinds.{truthKind, ramKind, guardKind, kindBy}
+use Rattle.syntax.specs.Kinds.{truthKind, ramKind, guardKind, kindNumber, kindBy}
 use Rattle.rule.specs.Reading.{Parsed, got, refused, Raw, Fault, inResult, inOperand, inArgument, Place, apart}
 use Rattle.rule.specs.Outline.{outlineOf}
 
@@ -40,22 +39,21 @@ guardDemand = 4
 abbrev pub anyListDemand : ℕ
 anyListDemand = 6
 
-abbrev pub demandNumber : Demand → ℕ
-demandNumber (only truth) = truthDemand
-demandNumber (only (list Ram)) = ramDemand
-demandNumber (only (list Guard)) = guardDemand
-demandNumber anyList = anyListDemand
-
--- that of one kind, by its number
+-- of one kind, by its number
 abbrev pub demandFor : ℕ → ℕ
 demandFor kind = cond (eqb kind truthKind) truthDemand (cond (eqb kind ramKind) ramDemand guardDemand)
 
--- what a place adds to the number of its demand, which is below 8: eight times the number that refuses a node of another kind
-abbrev pub demands : ℕ
-demands = 8
+abbrev pub demandNumber : Demand → ℕ
+demandNumber (only κ) = demandFor (kindNumber κ)
+demandNumber anyList = anyListDemand
 
+-- demands are below this
+abbrev pub demandBound : ℕ
+demandBound = 8
+
+-- what a place adds to the number of its demand: so many times the number that refuses a node of another kind there
 abbrev pub faultPart : Fault → ℕ
-faultPart φ = demands * numberOf (apart φ)
+faultPart φ = demandBound * numberOf (apart φ)
 
 -- a place as one number
 abbrev pub placeNumber : Place → ℕ
@@ -63,7 +61,7 @@ placeNumber π = faultPart (π .fault) + demandNumber (π .demand)
 
 -- the demand that such a number says, and whether a node of a kind may stand there
 abbrev pub demandIn : ℕ → ℕ
-demandIn place = place % demands
+demandIn place = place % demandBound
 
 abbrev pub meets : ℕ → ℕ → Bool
 meets place kind = bitOf kind place
@@ -88,7 +86,7 @@ ended at = cond (ltb at firstStop) (stop BodyEnds) at
 
 -- what a node of the wrong kind comes to
 unfoldable pub wrongKind : ℕ → ℕ
-wrongKind place = firstStop + place / demands
+wrongKind place = firstStop + place / demandBound
 
 -- what comes of a node of a kind, where it meets the demand of its place
 abbrev pub whereMet : ℕ → ℕ → ℕ → ℕ

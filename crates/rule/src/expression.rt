@@ -26,7 +26,7 @@ const ONLY_GUARD: usize = 4;
 const ANY_LIST: usize = 6;
 
 // Demands are below this.
-const DEMANDS: usize = 8;
+const DEMAND_BOUND: usize = 8;
 
 // A place of an expression is one number: that of its demand, and eight times the number that refuses a node of another kind
 // there. That is 16 in a body's result, 25 in an operand of hd, tl, null or a condition, 26 in an argument.
@@ -114,7 +114,7 @@ fn after_end(at: usize) -> usize
 fn wrong_kind(place: usize) -> usize
     ensures { λ r. ⌜ r ≡ wrongKind place ⌝ }
 {
-    STOPS + place / DEMANDS
+    STOPS + place / DEMAND_BOUND
 }
 
 // A node with no operands.
@@ -167,7 +167,7 @@ fn tail(body: &&[u8], heads: &[u8; HEADS], place: usize, depth: usize, at: usize
     requires { ⌜ Sized (frameIn (now (now body)) (now heads)) ⌝ }
     ensures { λ r. ⌜ r ≡ tailAt (frameIn (now (now (body .entry))) (now (heads .entry))) depth place at ⌝ }
 {
-    let operand = OPERAND + place % DEMANDS;
+    let operand = OPERAND + place % DEMAND_BOUND;
     if allowed(place, TRUTH) {
         wrong_kind(place)
     } else {
