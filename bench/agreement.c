@@ -1,7 +1,6 @@
 #include <stdio.h>
 #include <stdlib.h>
 #include <string.h>
-#include "baseline.h"
 #include "sides.h"
 
 const struct side side[SIDES] = {
@@ -9,6 +8,8 @@ const struct side side[SIDES] = {
     {"plain C", plain_check_program, plain_evaluate, plain_evaluate_two, plain_read_record, plain_check_record},
     {"decoding C", plain_check_program, decoded_evaluate, decoded_evaluate_two, plain_read_record,
      decoded_check_record},
+    {"dividing C", plain_check_program, dividing_evaluate, dividing_evaluate_two, plain_read_record,
+     dividing_check_record},
 };
 
 /* The tables of the sides, and how many calls were compared. */

@@ -6,33 +6,42 @@
 
 #include "sikafondza.h"
 
+/* What evaluating answers beside sik_evaluate's: how many undecided cells the passes visited, and how many cells they
+ * came to. */
+enum { EVALUATED_VISITED = SIK_EVALUATED_SIZE, EVALUATED_COME_TO, EVALUATED_SIZE };
+
+typedef uint32_t program_check(const uint8_t *program, size_t program_len);
+
+typedef uint32_t evaluation(const uint8_t *program, size_t program_len, const uint8_t *trace, size_t trace_len,
+                            uint64_t n, uint16_t *table, size_t table_len, uint64_t answer[EVALUATED_SIZE]);
+
+typedef uint32_t evaluation_of_two(const uint8_t *program, size_t program_len, const uint8_t *ram, size_t ram_len,
+                                   uint64_t n, const uint8_t *guard, size_t guard_len, uint64_t m, uint16_t *table,
+                                   size_t table_len, uint64_t answer[EVALUATED_SIZE]);
+
+typedef uint32_t record_reading(const uint8_t *bytes, size_t bytes_len, uint64_t parts[SIK_PARTS_SIZE]);
+
+typedef uint32_t record_check(const uint8_t *bytes, size_t bytes_len, uint16_t *table, size_t table_len,
+                              uint64_t answer[1]);
+
 /* Plain C: evaluating reads the bytes of the program at every visit of a cell. */
 
-uint32_t plain_check_program(const uint8_t *program, size_t program_len);
-
-/* Beside what sik_evaluate answers, answer[2] becomes the number of undecided cells that the passes visited. */
-uint32_t plain_evaluate(const uint8_t *program, size_t program_len, const uint8_t *trace, size_t trace_len, uint64_t n,
-                        uint16_t *table, size_t table_len, uint64_t answer[3]);
-
-uint32_t plain_evaluate_two(const uint8_t *program, size_t program_len, const uint8_t *ram, size_t ram_len, uint64_t n,
-                            const uint8_t *guard, size_t guard_len, uint64_t m, uint16_t *table, size_t table_len,
-                            uint64_t answer[3]);
-
-uint32_t plain_read_record(const uint8_t *bytes, size_t bytes_len, uint64_t parts[SIK_PARTS_SIZE]);
-
-uint32_t plain_check_record(const uint8_t *bytes, size_t bytes_len, uint16_t *table, size_t table_len,
-                            uint64_t answer[1]);
+program_check plain_check_program;
+evaluation plain_evaluate;
+evaluation_of_two plain_evaluate_two;
+record_reading plain_read_record;
+record_check plain_check_record;
 
 /* Decoding C: evaluating decodes each body once, and visits cells by rows. */
 
-uint32_t decoded_evaluate(const uint8_t *program, size_t program_len, const uint8_t *trace, size_t trace_len,
-                          uint64_t n, uint16_t *table, size_t table_len, uint64_t answer[3]);
+evaluation decoded_evaluate;
+evaluation_of_two decoded_evaluate_two;
+record_check decoded_check_record;
 
-uint32_t decoded_evaluate_two(const uint8_t *program, size_t program_len, const uint8_t *ram, size_t ram_len,
-                              uint64_t n, const uint8_t *guard, size_t guard_len, uint64_t m, uint16_t *table,
-                              size_t table_len, uint64_t answer[3]);
+/* Dividing C: decoding C that finds the parameter values of a visited cell by dividing its number. */
 
-uint32_t decoded_check_record(const uint8_t *bytes, size_t bytes_len, uint16_t *table, size_t table_len,
-                              uint64_t answer[1]);
+evaluation dividing_evaluate;
+evaluation_of_two dividing_evaluate_two;
+record_check dividing_check_record;
 
 #endif

@@ -26,7 +26,8 @@ static double seconds(void)
 }
 
 /* Evaluates a workload's program on its trace or traces. */
-static uint32_t evaluate(const struct side *s, const struct workload *w, uint16_t *table, uint64_t answer[3])
+static uint32_t evaluate(const struct side *s, const struct workload *w, uint16_t *table,
+                         uint64_t answer[EVALUATED_SIZE])
 {
     const struct bytes *item = w->item;
     if (w->items == 3)
@@ -39,7 +40,7 @@ static uint32_t evaluate(const struct side *s, const struct workload *w, uint16_
 static uint64_t run(const struct side *s, const struct workload *w, uint16_t *table)
 {
     const struct bytes *item = w->item;
-    uint64_t parts[SIK_PARTS_SIZE] = {0}, answer[3] = {0}, sum = 0;
+    uint64_t parts[SIK_PARTS_SIZE] = {0}, answer[EVALUATED_SIZE] = {0}, sum = 0;
     switch (w->sort) {
     case EVALUATE:
         sum = evaluate(s, w, table, answer);
@@ -83,16 +84,16 @@ static int by_size(const void *a, const void *b)
 /* How many sides do a workload. */
 static unsigned sides_of(const struct workload *w) { return w->sort == EVALUATE || w->sort == WALK ? SIDES : READERS; }
 
-/* What a workload amounts to: visited cells, bytes or calls, and passes where it evaluates. */
+/* What a workload amounts to: cells visited or come to, bytes or calls, and passes where it evaluates. */
 static double units_of(const struct workload *w, uint16_t *table, char passes[11])
 {
     const struct bytes *item = w->item;
-    uint64_t answer[3] = {0, 0, 0};
+    uint64_t answer[EVALUATED_SIZE] = {0};
     double bytes = 0;
     if (w->sort == EVALUATE) {
         evaluate(&side[PLAIN], w, table, answer);
-        snprintf(passes, 11, "%u", (unsigned)answer[1]);
-        return w->unit == PER_CALL ? 1 : answer[2];
+        snprintf(passes, 11, "%u", (unsigned)answer[SIK_EVALUATED_PASSES]);
+        return w->unit == PER_CALL ? 1 : answer[w->unit == PER_VISIT ? EVALUATED_VISITED : EVALUATED_COME_TO];
     }
     for (size_t i = 0; i < w->items; i++)
         bytes += item[i].len;
@@ -133,6 +134,9 @@ static void take_turns(const struct workload *w, uint16_t *table, unsigned times
     }
 }
 
+/* How wide columns are: of a time, and of a number that is smaller. */
+enum { TIME = 9, SMALL = 8 };
+
 /* Prints a number for each side from one on, and a dash for a side that does not do the workload. */
 static void print_each(const struct workload *w, unsigned from, int width, const double *number)
 {
@@ -146,7 +150,7 @@ static void print_each(const struct workload *w, unsigned from, int width, const
 /* Measures a workload and prints its row; answers the median turn over the least, of the side where it is largest. */
 static double measure(const struct workload *w, uint16_t *table, unsigned turns)
 {
-    static const char *const unit[] = {"cells", "bytes", "call"};
+    static const char *const unit[] = {"cells visited", "cells come to", "bytes", "call"};
     static double taken[SIDES][ALL_TURNS];
     char passes[11] = "-";
     double units = units_of(w, table, passes), most = 1, once[SIDES], each[SIDES], ratio[SIDES];
@@ -160,21 +164,32 @@ static double measure(const struct workload *w, uint16_t *table, unsigned turns)
         ratio[s] = once[LIBRARY] / once[s];
         most = spread > most ? spread : most;
     }
-    printf("%-42s %6s %9.0f %-5s", w->name, passes, units, unit[w->unit]);
-    print_each(w, LIBRARY, 9, once);
-    print_each(w, LIBRARY, 7, each);
-    print_each(w, PLAIN, 7, ratio);
+    printf("%-42s %6s %9.0f %-13s", w->name, passes, units, unit[w->unit]);
+    print_each(w, LIBRARY, TIME, once);
+    print_each(w, LIBRARY, SMALL, each);
+    print_each(w, PLAIN, SMALL, ratio);
     printf("\n");
     fflush(stdout);
     return most;
 }
 
+/* Prints the name of each side from one on. */
+static void print_names(unsigned from, int width)
+{
+    static const char *const name[SIDES] = {"library", "plain", "decoded", "dividing"};
+    for (unsigned s = from; s < SIDES; s++)
+        printf(" %*s", width, name[s]);
+}
+
 static void print_head(void)
 {
-    printf("%-42s %6s %15s %29s %23s %15s\n", "", "", "visited cells,", "microseconds", "ns per cell, byte, call",
-           "library /");
-    printf("%-42s %6s %15s %9s %9s %9s %7s %7s %7s %7s %7s\n", "workload", "passes", "bytes or calls", "library",
-           "plain", "decoded", "library", "plain", "decoded", "plain", "decoded");
+    printf("%-42s %6s %-23s %*s %*s %*s\n", "", "", "cells visited or come", SIDES * (TIME + 1) - 1, "microseconds",
+           SIDES * (SMALL + 1) - 1, "ns per cell, byte, call", (SIDES - PLAIN) * (SMALL + 1) - 1, "library /");
+    printf("%-42s %6s %-23s", "workload", "passes", "to, bytes or calls");
+    print_names(LIBRARY, TIME);
+    print_names(LIBRARY, SMALL);
+    print_names(PLAIN, SMALL);
+    printf("\n");
 }
 
 int main(int argc, char **argv)
@@ -187,7 +202,7 @@ int main(int argc, char **argv)
     for (unsigned s = 0; s < SIDES; s++) {
         table[s] = malloc(CELLS_LENT * sizeof **table);
         if (!table[s] || turns < 1 || turns > MOST_TURNS) {
-            fprintf(stderr, "bench [turns]: 1 to %d turns, and 96 MB of memory\n", MOST_TURNS);
+            fprintf(stderr, "bench [turns]: 1 to %d turns, and 128 MB of memory\n", MOST_TURNS);
             return 2;
         }
     }
@@ -197,8 +212,8 @@ int main(int argc, char **argv)
     at_random = agree_at_random(table);
     for (unsigned s = 1; s < SIDES; s++)
         free(table[s]);
-    printf("The library, plain C and decoding C agree on %.0f calls and on %.0f random programs.\n", (double)calls,
-           (double)at_random);
+    printf("The library, plain C, decoding C and dividing C agree on %.0f calls and on %.0f random programs.\n",
+           (double)calls, (double)at_random);
     printf("Processor time, the least of %d turns, of %d where a turn takes less than a tenth of a second.\n\n", turns,
            turns * MORE_TURNS);
     print_head();

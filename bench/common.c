@@ -180,7 +180,7 @@ uint32_t begin(struct rule *r, const uint8_t *program, size_t program_len, const
     return 0;
 }
 
-void make_passes(const struct rule *r, uint32_t (*pass)(const struct rule *), uint64_t answer[3])
+void make_passes(const struct rule *r, uint32_t (*pass)(const struct rule *), uint64_t answer[EVALUATED_SIZE])
 {
     const uint16_t *main_cell = r->table + r->function[0].cells - 1;
     uint64_t undecided = r->cells, passes = 0, visited = 0;
@@ -191,9 +191,10 @@ void make_passes(const struct rule *r, uint32_t (*pass)(const struct rule *), ui
         undecided -= stored;
         passes++;
     } while (stored);
-    answer[0] = *main_cell <= TAIL ? *main_cell : SIK_FOREVER;
-    answer[1] = passes;
-    answer[2] = visited;
+    answer[SIK_EVALUATED_VERDICT] = *main_cell <= TAIL ? *main_cell : SIK_FOREVER;
+    answer[SIK_EVALUATED_PASSES] = passes;
+    answer[EVALUATED_VISITED] = visited;
+    answer[EVALUATED_COME_TO] = r->cells * passes;
 }
 
 /* ---- Records */
@@ -261,7 +262,7 @@ uint32_t plain_read_record(const uint8_t *bytes, size_t bytes_len, uint64_t part
 uint32_t check_record_by(evaluator *evaluate, const uint8_t *bytes, size_t bytes_len, uint16_t *table,
                          size_t table_len, uint64_t answer[1])
 {
-    uint64_t found[SIK_PARTS_SIZE], verdict[3];
+    uint64_t found[SIK_PARTS_SIZE], verdict[EVALUATED_SIZE];
     uint32_t number = read_parts(bytes, bytes_len, found);
     if (number == 0) {
         const struct traces t = {

@@ -1,4 +1,4 @@
-/* What the two baselines share: the check of a program, the frame of an evaluation, the check of a record. */
+/* What the baselines share: the check of a program, the frame of an evaluation, the check of a record. */
 #ifndef COMMON_H
 #define COMMON_H
 
@@ -49,14 +49,14 @@ static inline unsigned in_cell(unsigned v) { return v & (GUARD - 1); }
 
 /* Evaluates on traces, with the answer of plain_evaluate. */
 typedef uint32_t evaluator(const uint8_t *program, size_t program_len, const struct traces *t, uint16_t *table,
-                           size_t table_len, uint64_t answer[3]);
+                           size_t table_len, uint64_t answer[EVALUATED_SIZE]);
 
 /* Begins an evaluation: meets its refusals, finds the functions and their cells in the rule, clears the cells. */
 uint32_t begin(struct rule *r, const uint8_t *program, size_t program_len, const struct traces *t, uint16_t *table,
                size_t table_len);
 
 /* Makes passes until one stores nothing, and gives the answer. A pass answers how many outcomes it stored. */
-void make_passes(const struct rule *r, uint32_t (*pass)(const struct rule *), uint64_t answer[3]);
+void make_passes(const struct rule *r, uint32_t (*pass)(const struct rule *), uint64_t answer[EVALUATED_SIZE]);
 
 /* Checks a record by one of the evaluators. */
 uint32_t check_record_by(evaluator *evaluate, const uint8_t *bytes, size_t bytes_len, uint16_t *table,

@@ -1,9 +1,16 @@
 /* The decoding evaluator. Each body is decoded once an evaluation, from its last byte to its first, into one word a
  * node at the place of its byte; common pairs of nodes are one sort. The evaluator is a recursion over these words, and
- * a pass takes the cells of a function by rows, in which only the last parameter differs. It runs on accepted programs
- * alone, so it asks for no depth and no bounds.
+ * a pass takes the cells of a function by rows, in which only the last parameter differs; the values of the others step
+ * from row to row. With DIVIDING defined, a pass divides the number of each cell it visits instead. It runs on accepted
+ * programs alone, so it asks for no depth and no bounds.
  */
 #include "common.h"
+
+#ifdef DIVIDING
+#define NAMED(operation) dividing_##operation
+#else
+#define NAMED(operation) decoded_##operation
+#endif
 
 /* The sorts of decoded nodes. The empty list of the guard, whose number no place holds, has a sort of its own; so have
  * hd, tl and null of a parameter, an if whose condition is a parameter or null or hd of one, a call of a function whose
@@ -34,7 +41,7 @@ struct kind {
 };
 
 /* What a call asks of a function: its first cell in bits 0 to 31, then the least and the most number of an outcome of
- * its kind in 16 bits each; and the kinds of its parameters. A function without parameters has one of a single value. */
+ * its kind in 16 bits each; and the kinds of its parameters. */
 struct called {
     uint64_t outcomes;
     struct kind param[MOST_PARAMS];
@@ -48,10 +55,11 @@ struct decoded {
 
 static uint32_t first_cell(uint64_t outcomes) { return outcomes; }
 
-/* A cell that holds no outcome of its function's kind counts as undecided. */
-static unsigned held(uint64_t outcomes, unsigned cell)
+/* Whether a cell holds an outcome of its function's kind; if not, it counts as undecided. */
+static int decided(uint64_t outcomes, unsigned cell)
 {
-    return cell < (outcomes >> 32 & 65535) || cell > outcomes >> 48 ? UNDECIDED : cell;
+    const unsigned least = outcomes >> 32 & 65535, most = outcomes >> 48;
+    return cell - least <= most - least;
 }
 
 /* ---- Evaluating */
@@ -72,7 +80,8 @@ static unsigned null(unsigned v) { return v < EMPTY ? v : in_cell(v) == EMPTY ? 
 /* The outcome in a cell of a function, as it stands there. */
 static unsigned look_up(const struct decoded *d, const struct called *f, uint32_t index)
 {
-    return held(f->outcomes, d->rule.table[first_cell(f->outcomes) + index]);
+    const unsigned cell = d->rule.table[first_cell(f->outcomes) + index];
+    return decided(f->outcomes, cell) ? cell : UNDECIDED;
 }
 
 /* What a call gave, by what stands in the callee's cell. */
@@ -150,11 +159,23 @@ static unsigned eval(const struct decoded *d, const uint16_t *env, uint64_t node
 
 /* ---- Passes */
 
-/* The values of all parameters but the last in a row, by the row's number. */
-static void row_values(const struct called *f, unsigned params, uint32_t row, uint16_t *env)
+/* Takes the body at an undecided cell: how many outcomes were stored. */
+static inline uint32_t visit(const struct decoded *d, const uint16_t *env, uint64_t body, uint16_t *cell)
 {
-    for (unsigned p = params; p-- > 1; row /= f->param[p - 1].values)
-        env[p - 1] = row % f->param[p - 1].values + f->param[p - 1].lowest;
+    const unsigned outcome = eval(d, env, body);
+    if (outcome == UNDECIDED)
+        return 0;
+    *cell = in_cell(outcome);
+    return 1;
+}
+
+#ifdef DIVIDING
+
+/* The parameter values of a configuration, by its number. */
+static void values(const struct called *f, unsigned params, uint32_t index, uint16_t *env)
+{
+    for (unsigned p = params; p-- > 0; index /= f->param[p].values)
+        env[p] = index % f->param[p].values + f->param[p].lowest;
 }
 
 /* Visits the cells of a function: how many outcomes were stored. */
@@ -162,32 +183,62 @@ static uint32_t pass_function(const struct decoded *d, unsigned g)
 {
     const struct function *f = &d->rule.function[g];
     const struct called *c = &d->called[g];
-    const unsigned last = f->params ? f->params - 1 : 0, lowest = c->param[last].lowest;
-    const uint32_t width = c->param[last].values, rows = f->cells / width;
     const uint64_t body = d->node[f->start], outcomes = c->outcomes;
-    uint16_t env[MOST_PARAMS] = {0, 0, 0, 0}, *cell = d->rule.table + f->first;
+    uint16_t env[MOST_PARAMS], *const cell = d->rule.table + f->first;
     uint32_t stored = 0;
-    for (uint32_t row = 0; row < rows; row++, cell += width) {
-        uint32_t digit = 0;
-        while (digit < width && held(outcomes, cell[digit]) != UNDECIDED)
-            digit++;
-        if (digit == width)
+    for (uint32_t i = 0; i < f->cells; i++) {
+        if (decided(outcomes, cell[i]))
             continue;
-        row_values(c, f->params, row, env);
-        for (; digit < width; digit++) {
-            unsigned outcome;
-            if (held(outcomes, cell[digit]) != UNDECIDED)
-                continue;
-            env[last] = lowest + digit;
-            outcome = eval(d, env, body);
-            if (outcome != UNDECIDED) {
-                cell[digit] = in_cell(outcome);
-                stored++;
-            }
-        }
+        values(c, f->params, i, env);
+        stored += visit(d, env, body, &cell[i]);
     }
     return stored;
 }
+
+#else
+
+/* The first value of each parameter, and the number after the last one. */
+struct bounds {
+    uint16_t first[MOST_PARAMS], end[MOST_PARAMS];
+};
+
+/* Steps the values of the parameters before the last from a row to the next: the last of them goes up by one; where it
+ * was at its kind's last value, it starts again and the one before it is stepped. */
+static inline void step(const struct bounds *b, unsigned last, uint16_t *env)
+{
+    for (unsigned p = last; p-- > 0;) {
+        if (++env[p] < b->end[p])
+            return;
+        env[p] = b->first[p];
+    }
+}
+
+/* Visits the cells of a function, row by row: how many outcomes were stored. */
+static uint32_t pass_function(const struct decoded *d, unsigned g)
+{
+    const struct function *f = &d->rule.function[g];
+    const struct called *c = &d->called[g];
+    const unsigned last = f->params ? f->params - 1 : 0, lowest = f->params ? c->param[last].lowest : 0;
+    const uint32_t width = f->params ? c->param[last].values : 1;
+    const uint64_t body = d->node[f->start], outcomes = c->outcomes;
+    uint16_t env[MOST_PARAMS], *cell = d->rule.table + f->first, *const end = cell + f->cells;
+    struct bounds b;
+    uint32_t stored = 0;
+    for (unsigned p = 0; p < f->params; p++) {
+        env[p] = b.first[p] = c->param[p].lowest;
+        b.end[p] = c->param[p].lowest + c->param[p].values;
+    }
+    for (; cell < end; cell += width, step(&b, last, env))
+        for (uint32_t digit = 0; digit < width; digit++) {
+            if (decided(outcomes, cell[digit]))
+                continue;
+            env[last] = lowest + digit;
+            stored += visit(d, env, body, &cell[digit]);
+        }
+    return stored;
+}
+
+#endif
 
 /* One pass: how many outcomes it stored. */
 static uint32_t pass(const struct rule *r)
@@ -259,7 +310,6 @@ static void decode_function(struct decoded *d, unsigned g)
     const unsigned result = f->kind[RESULT];
     const uint64_t least = result ? HEAD : FALSE_, most = result ? EMPTY + d->rule.n[result - 1] : TAIL;
     d->called[g].outcomes = f->first | least << 32 | most << 48;
-    d->called[g].param[0] = (struct kind){1, 0};
     for (unsigned p = 0; p < f->params; p++)
         d->called[g].param[p] = (struct kind){radix(&d->rule, f->kind[p]), lowest(f->kind[p])};
     for (unsigned at = f->end; at-- > f->start;)
@@ -267,7 +317,7 @@ static void decode_function(struct decoded *d, unsigned g)
 }
 
 static uint32_t evaluate(const uint8_t *program, size_t program_len, const struct traces *t, uint16_t *table,
-                         size_t table_len, uint64_t answer[3])
+                         size_t table_len, uint64_t answer[EVALUATED_SIZE])
 {
     struct decoded d;
     uint32_t number = begin(&d.rule, program, program_len, t, table, table_len);
@@ -279,23 +329,23 @@ static uint32_t evaluate(const uint8_t *program, size_t program_len, const struc
     return 0;
 }
 
-uint32_t decoded_evaluate(const uint8_t *program, size_t program_len, const uint8_t *trace, size_t trace_len,
-                          uint64_t n, uint16_t *table, size_t table_len, uint64_t answer[3])
+uint32_t NAMED(evaluate)(const uint8_t *program, size_t program_len, const uint8_t *trace, size_t trace_len,
+                         uint64_t n, uint16_t *table, size_t table_len, uint64_t answer[EVALUATED_SIZE])
 {
     const struct traces t = {1, {trace, NULL}, {trace_len, 0}, {n, 0}};
     return evaluate(program, program_len, &t, table, table_len, answer);
 }
 
-uint32_t decoded_evaluate_two(const uint8_t *program, size_t program_len, const uint8_t *ram, size_t ram_len,
-                              uint64_t n, const uint8_t *guard, size_t guard_len, uint64_t m, uint16_t *table,
-                              size_t table_len, uint64_t answer[3])
+uint32_t NAMED(evaluate_two)(const uint8_t *program, size_t program_len, const uint8_t *ram, size_t ram_len,
+                             uint64_t n, const uint8_t *guard, size_t guard_len, uint64_t m, uint16_t *table,
+                             size_t table_len, uint64_t answer[EVALUATED_SIZE])
 {
     const struct traces t = {2, {ram, guard}, {ram_len, guard_len}, {n, m}};
     return evaluate(program, program_len, &t, table, table_len, answer);
 }
 
-uint32_t decoded_check_record(const uint8_t *bytes, size_t bytes_len, uint16_t *table, size_t table_len,
-                              uint64_t answer[1])
+uint32_t NAMED(check_record)(const uint8_t *bytes, size_t bytes_len, uint16_t *table, size_t table_len,
+                             uint64_t answer[1])
 {
     return check_record_by(evaluate, bytes, bytes_len, table, table_len, answer);
 }

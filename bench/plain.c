@@ -1,6 +1,6 @@
 /* The plain evaluator is what one would write by hand: a recursion over expression bytes whose outcomes are cell
- * numbers, with first cells, kinds and expression ends worked out once, and a pass for which a decided cell costs a
- * load and a test. It runs on accepted programs alone, so it asks for no depth and no bounds.
+ * numbers, with first cells, kinds and expression ends worked out once, and a pass in which the parameter values step
+ * from cell to cell. It runs on accepted programs alone, so it asks for no depth and no bounds.
  */
 #include "common.h"
 
@@ -63,13 +63,15 @@ static uint16_t eval(const struct rule *r, const uint16_t *env, unsigned at)
     }
 }
 
-/* The parameter values of a configuration, by its number. */
-static void values(const struct rule *r, const struct function *f, uint32_t index, uint16_t env[4])
+/* Steps the parameter values to those of the next configuration: the last goes up by one; where it was at its kind's
+ * last value, it starts again and the one before it is stepped. */
+static void step(const struct rule *r, const struct function *f, uint16_t env[MOST_PARAMS])
 {
     for (unsigned p = f->params; p-- > 0;) {
-        unsigned values = radix(r, f->kind[p]);
-        env[p] = index % values + lowest(f->kind[p]);
-        index /= values;
+        const unsigned first = lowest(f->kind[p]);
+        if (++env[p] < first + radix(r, f->kind[p]))
+            return;
+        env[p] = first;
     }
 }
 
@@ -79,11 +81,13 @@ static uint32_t pass(const struct rule *r)
     uint32_t stored = 0;
     for (unsigned g = 0; g < r->functions; g++) {
         const struct function *f = &r->function[g];
-        for (uint32_t i = 0; i < f->cells; i++) {
-            uint16_t env[4] = {0, 0, 0, 0}, outcome;
+        uint16_t env[MOST_PARAMS] = {0, 0, 0, 0};
+        for (unsigned p = 0; p < f->params; p++)
+            env[p] = lowest(f->kind[p]);
+        for (uint32_t i = 0; i < f->cells; i++, step(r, f, env)) {
+            uint16_t outcome;
             if (held(r, f->kind[RESULT], r->table[f->first + i]) != UNDECIDED)
                 continue;
-            values(r, f, i, env);
             outcome = eval(r, env, f->start);
             if (outcome != UNDECIDED) {
                 r->table[f->first + i] = in_cell(outcome);
@@ -110,7 +114,7 @@ static void find_ends(struct rule *r)
 }
 
 static uint32_t evaluate(const uint8_t *program, size_t program_len, const struct traces *t, uint16_t *table,
-                         size_t table_len, uint64_t answer[3])
+                         size_t table_len, uint64_t answer[EVALUATED_SIZE])
 {
     struct rule r;
     uint32_t number = begin(&r, program, program_len, t, table, table_len);
@@ -122,7 +126,7 @@ static uint32_t evaluate(const uint8_t *program, size_t program_len, const struc
 }
 
 uint32_t plain_evaluate(const uint8_t *program, size_t program_len, const uint8_t *trace, size_t trace_len, uint64_t n,
-                        uint16_t *table, size_t table_len, uint64_t answer[3])
+                        uint16_t *table, size_t table_len, uint64_t answer[EVALUATED_SIZE])
 {
     const struct traces t = {1, {trace, NULL}, {trace_len, 0}, {n, 0}};
     return evaluate(program, program_len, &t, table, table_len, answer);
@@ -130,7 +134,7 @@ uint32_t plain_evaluate(const uint8_t *program, size_t program_len, const uint8_
 
 uint32_t plain_evaluate_two(const uint8_t *program, size_t program_len, const uint8_t *ram, size_t ram_len, uint64_t n,
                             const uint8_t *guard, size_t guard_len, uint64_t m, uint16_t *table, size_t table_len,
-                            uint64_t answer[3])
+                            uint64_t answer[EVALUATED_SIZE])
 {
     const struct traces t = {2, {ram, guard}, {ram_len, guard_len}, {n, m}};
     return evaluate(program, program_len, &t, table, table_len, answer);

@@ -1,21 +1,21 @@
-/* The three sides that are compared, and what they are asked to do. */
+/* The sides that are compared, and what they are asked to do. */
 #ifndef SIDES_H
 #define SIDES_H
 
+#include "baseline.h"
 #include "workloads.h"
 
 struct side {
     const char *name;
-    uint32_t (*check_program)(const uint8_t *, size_t);
-    uint32_t (*evaluate)(const uint8_t *, size_t, const uint8_t *, size_t, uint64_t, uint16_t *, size_t, uint64_t *);
-    uint32_t (*evaluate_two)(const uint8_t *, size_t, const uint8_t *, size_t, uint64_t, const uint8_t *, size_t, uint64_t,
-                             uint16_t *, size_t, uint64_t *);
-    uint32_t (*read_record)(const uint8_t *, size_t, uint64_t *);
-    uint32_t (*check_record)(const uint8_t *, size_t, uint16_t *, size_t, uint64_t *);
+    program_check *check_program;
+    evaluation *evaluate;
+    evaluation_of_two *evaluate_two;
+    record_reading *read_record;
+    record_check *check_record;
 };
 
-/* The first two sides check programs and read records, each in its own way; all three evaluate. */
-enum { LIBRARY, PLAIN, DECODED, SIDES, READERS = DECODED };
+/* The first two sides check programs and read records, each in its own way; all evaluate. */
+enum { LIBRARY, PLAIN, DECODED, DIVIDING, SIDES, READERS = DECODED };
 
 extern const struct side side[SIDES];
 

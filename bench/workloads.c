@@ -22,21 +22,37 @@ static const uint8_t two_lists[] = {2, 1, 1, 3, 0, 0x81, 0x10, 0x10, 2, 3, 10, 0
  * pass decides one cell more of each. */
 static const uint8_t ping_pong[] = {2, 1, 1, 6, 0, 0x23, 0x22, 0x10, 0x01, 0x81, 0x10, 1, 1, 3, 0, 0x80, 0x21, 0x10};
 
-/* Whether three of some four samples in a row are 1.
- * main(l) = look(l, False, False, False); vote(a, b, c, d) = whether three of the four are True;
+/* Functions 1 and 2 of two programs below: vote(a, b, c, d) = whether three of the four are True;
  * look(l, a, b, c) = if null l then False else if vote(a, b, c, hd l) then True else look(tl l, b, c, hd l) */
-static const uint8_t bools[] = {
-    3,
-    1, 1, 5, 0, 0x82, 0x10, 0x00, 0x00, 0x00,
-    4, 0, 19, 0, 0x23, 0x10, 0x23, 0x11, 0x23, 0x12, 0x01, 0x13, 0x23, 0x12, 0x13, 0x00,
-    0x23, 0x11, 0x23, 0x12, 0x13, 0x00, 0x00,
-    4, 1, 19, 0, 0x23, 0x22, 0x10, 0x00, 0x23, 0x81, 0x11, 0x12, 0x13, 0x20, 0x10, 0x01,
-    0x82, 0x21, 0x10, 0x12, 0x13, 0x20, 0x10};
+#define VOTE_AND_LOOK \
+    4, 0, 19, 0, 0x23, 0x10, 0x23, 0x11, 0x23, 0x12, 0x01, 0x13, 0x23, 0x12, 0x13, 0x00, \
+    0x23, 0x11, 0x23, 0x12, 0x13, 0x00, 0x00, \
+    4, 1, 19, 0, 0x23, 0x22, 0x10, 0x00, 0x23, 0x81, 0x11, 0x12, 0x13, 0x20, 0x10, 0x01, \
+    0x82, 0x21, 0x10, 0x12, 0x13, 0x20, 0x10
+
+/* Whether three of some four samples in a row are 1.
+ * main(l) = look(l, False, False, False) */
+static const uint8_t bools[] = {3, 1, 1, 5, 0, 0x82, 0x10, 0x00, 0x00, 0x00, VOTE_AND_LOOK};
+
+/* Pass 1 decides all cells of vote and look, each of the n + 1 passes after it one or two cells of main and g, as in
+ * ping-pong.
+ * main(l) = if null l then look(l, False, False, False) else g(l); g(l) = main(tl l) */
+static const uint8_t ping_pong_beside[] = {4, 1, 1, 10, 0, 0x23, 0x22, 0x10, 0x82, 0x10, 0x00, 0x00, 0x00, 0x83, 0x10,
+                                           VOTE_AND_LOOK, 1, 1, 3, 0, 0x80, 0x21, 0x10};
 
 /* Over two contacts: the ram may not move while the guard is open.
  * main(r, g) = if null r then True else if hd r then (if hd g then main(tl r, tl g) else False) else main(tl r, tl g) */
 static const uint8_t press[] = {0x81, 2, 3, 2, 21, 0, 0x23, 0x22, 0x10, 0x01, 0x23, 0x20, 0x10, 0x23, 0x20, 0x11, 0x80,
                                 0x21, 0x10, 0x21, 0x11, 0x00, 0x80, 0x21, 0x10, 0x21, 0x11};
+
+/* Whether the trace comes to a 1 no later without its first two samples than with them; x and y are the samples before
+ * a and b. A cell where x is False may ask for one where it is True, which comes after it, and main for cells of first:
+ * pass 3 decides the last of them.
+ * main(l) = first(False, tl (tl l), False, l); first(x, a, y, b) = if x then True else if y then False
+ * else if null a then False else first(hd a, tl a, hd b, tl b) */
+static const uint8_t lists_and_bools[] = {2, 1, 1, 7, 0, 0x81, 0x00, 0x21, 0x21, 0x10, 0x00, 0x10,
+                                          4, 10, 19, 0, 0x23, 0x10, 0x01, 0x23, 0x12, 0x00, 0x23, 0x22, 0x11, 0x00,
+                                          0x81, 0x20, 0x11, 0x21, 0x11, 0x20, 0x13, 0x21, 0x13};
 
 /* ---- Traces, records, archives */
 
@@ -126,14 +142,14 @@ static struct bytes archive(const struct task *task, size_t tasks, uint16_t *tab
 
 static struct workload evaluate(const char *name, struct bytes program, const uint8_t *trace, unsigned n)
 {
-    return (struct workload){name, EVALUATE, PER_CELL, n, 2, {program, {trace, (n + 7) / 8}}};
+    return (struct workload){name, EVALUATE, PER_VISIT, n, 2, {program, {trace, (n + 7) / 8}}};
 }
 
 static struct workload evaluate_two(const char *name, struct bytes program, const uint8_t *ram, const uint8_t *guard,
                                     unsigned n)
 {
     const size_t len = (n + 7) / 8;
-    return (struct workload){name, EVALUATE, PER_CELL, n, 3, {program, {ram, len}, {guard, len}}};
+    return (struct workload){name, EVALUATE, PER_VISIT, n, 3, {program, {ram, len}, {guard, len}}};
 }
 
 static struct workload walk(const char *name, struct bytes archive)
@@ -175,10 +191,13 @@ void build_workloads(struct workload workload[WORKLOADS], uint16_t *table)
     workload[3] = evaluate("four Bools; a list and three, n = 4,095", BYTES(bools), mixed, 4095);
     workload[4] = evaluate("a body of 1,024 bytes, n = 4,095", body, mixed, 4095);
     workload[5] = evaluate_two("two contacts together, n = m = 4,000", BYTES(press), mixed, ones, 4000);
-    workload[6] = evaluate("row A, n = 3", BYTES(row_a), trace_a, 3);
-    workload[6].unit = PER_CALL;
-    workload[7] = walk("walk and check an archive of 32,768 bytes", full_archive(listed, COUNT(listed), table));
-    workload[8] = walk("walk and check an archive of small records", archive(small, COUNT(small), table));
-    workload[9] = check;
-    workload[10] = read;
+    workload[6] = evaluate("two lists and two Bools, n = 1,000", BYTES(lists_and_bools), mixed, 1000);
+    workload[7] = evaluate("ping-pong beside four Bools, n = 2,000", BYTES(ping_pong_beside), mixed, 2000);
+    workload[7].unit = PER_CELL;
+    workload[8] = evaluate("row A, n = 3", BYTES(row_a), trace_a, 3);
+    workload[8].unit = PER_CALL;
+    workload[9] = walk("walk and check an archive of 32,768 bytes", full_archive(listed, COUNT(listed), table));
+    workload[10] = walk("walk and check an archive of small records", archive(small, COUNT(small), table));
+    workload[11] = check;
+    workload[12] = read;
 }

@@ -18,10 +18,10 @@
 #include <stddef.h>
 #include <stdint.h>
 
-/* The version of the library, as numbers and as a text such as "3.1.0". */
+/* The version of the library, as numbers and as a text such as "3.1.1". */
 #define SIK_VERSION_MAJOR 3
 #define SIK_VERSION_MINOR 1
-#define SIK_VERSION_PATCH 0
+#define SIK_VERSION_PATCH 1
 #define SIK_VERSION \
     SIK_VERSION_TEXT(SIK_VERSION_MAJOR) "." SIK_VERSION_TEXT(SIK_VERSION_MINOR) "." SIK_VERSION_TEXT(SIK_VERSION_PATCH)
 #define SIK_VERSION_TEXT(macro) SIK_VERSION_TEXT_OF(macro)

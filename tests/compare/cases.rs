@@ -1,6 +1,7 @@
 //! The kinds of cases. Each lends memory to the library and compares all it leaves with the oracle.
 
 mod bodies;
+mod digits;
 mod evaluation;
 mod executable;
 mod kinds;
@@ -19,6 +20,7 @@ use super::oracle::trace::{PerContact, Trace, Traces};
 use super::random::Random;
 use super::report::Report;
 
+pub use digits::operations_on_mixes;
 pub use kinds::operations;
 
 /// What a case works with.
@@ -42,10 +44,10 @@ const SHOWN: usize = 256;
 /// A kind of case: its name and what runs it in a round.
 pub type Kind = (&'static str, fn(&mut Bench) -> Compared);
 
-/// The kinds that together meet all of the language.
-pub const BODIES: [&str; 5] = ["pairs", "contacts", "wide", "longest", "kinds"];
+/// The kinds that together meet all of the language, and every mix of parameters.
+pub const BODIES: [&str; 6] = ["pairs", "contacts", "wide", "longest", "kinds", "digits"];
 
-pub const KINDS: [Kind; 16] = [
+pub const KINDS: [Kind; 17] = [
     ("papers", papers::run),
     ("check", program::run),
     ("evaluate", evaluation::run),
@@ -62,11 +64,13 @@ pub const KINDS: [Kind; 16] = [
     ("longest", bodies::run_longest),
     ("passes", passes::run),
     ("kinds", kinds::run),
+    ("digits", digits::run),
 ];
 
 /// After so many rounds the kinds of BODIES tried all they have.
 pub fn rounds_for_all() -> u64 {
-    bodies::rounds_for_all().max(kinds::rounds_for_all())
+    let others = kinds::rounds_for_all().max(digits::rounds_for_all());
+    bodies::rounds_for_all().max(others)
 }
 
 /// With exact buffers, which are for slow runs, some kinds are run so many times as seldom.

@@ -6,6 +6,7 @@ mod callees;
 mod chains;
 pub mod damage;
 mod exact;
+pub mod mixes;
 mod preview;
 pub mod programs;
 pub mod records;

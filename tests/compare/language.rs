@@ -10,6 +10,8 @@ pub const RAM: Kind = Kind::List(Contact::Ram);
 pub const GUARD: Kind = Kind::List(Contact::Guard);
 pub const BOOL: Demand = Demand::Only(Kind::Bool);
 
+/// The most parameters of a function.
+const MOST_PARAMETERS: usize = 4;
 /// All kinds, and all demands.
 const KINDS: [Kind; 3] = [Kind::Bool, RAM, GUARD];
 const DEMANDS: [Demand; 4] = [BOOL, Demand::Only(RAM), Demand::Only(GUARD), Demand::Either];
@@ -17,6 +19,21 @@ const DEMANDS: [Demand; 4] = [BOOL, Demand::Only(RAM), Demand::Only(GUARD), Dema
 /// The kinds in programs of a sort.
 pub fn kinds(contacts: Contacts) -> &'static [Kind] {
     &KINDS[..1 + contacts.contacts().len()]
+}
+
+/// The mixes of parameters in programs of a sort, from none to four.
+pub fn mixes(contacts: Contacts) -> Vec<Vec<Kind>> {
+    let mut mixes = vec![Vec::new()];
+    let mut longest = mixes.clone();
+    for _ in 0..MOST_PARAMETERS {
+        let longer = |mix: &Vec<Kind>| {
+            let one_more = |kind: &Kind| [&mix[..], &[*kind]].concat();
+            kinds(contacts).iter().map(one_more).collect::<Vec<_>>()
+        };
+        longest = longest.iter().flat_map(longer).collect();
+        mixes.extend(longest.clone());
+    }
+    mixes
 }
 
 /// The demands in programs of a sort. Where there is one contact, either is that one.
@@ -47,6 +64,11 @@ pub fn kind_name(kind: Kind) -> &'static str {
         RAM => "list",
         GUARD => "guard list",
     }
+}
+
+pub fn mix_name(mix: &[Kind]) -> String {
+    let names: Vec<&str> = mix.iter().copied().map(kind_name).collect();
+    format!("parameters ({})", names.join(", "))
 }
 
 pub fn demand_name(demand: Demand) -> &'static str {

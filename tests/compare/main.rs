@@ -8,7 +8,8 @@
 //! Some programs are written on purpose (kinds `pairs`, `contacts`, `wide` and `longest`): each sort of node in each
 //! place, over one contact at each depth, wide bodies, and programs of 4,096 bytes. What they come to is walked a
 //! third time, as trees, to count what was taken: the lines `taken` and `met`. Others (kind `kinds`) have one node of a
-//! kind that its place does not demand, in each nesting of two places.
+//! kind that its place does not demand, in each nesting of two places, or (kind `digits`) functions of each mix of
+//! parameters, whose bodies tell the values of each cell.
 //!
 //! To build and run it:
 //!
@@ -55,7 +56,7 @@ mod script;
 
 use std::process::exit;
 
-use cases::{operations, rounds_for_all, Bench, BODIES, KINDS};
+use cases::{operations, operations_on_mixes, rounds_for_all, Bench, BODIES, KINDS};
 use met::Tally;
 use options::{Options, FULL, USAGE};
 use random::Random;
@@ -121,6 +122,8 @@ fn end(options: &Options, report: &Report) {
         tallies.extend(report.language());
         let operations = operations(options.listing.is_some());
         tallies.push(report.kind_faults(operations));
+        let operations = operations_on_mixes(options.cases.is_some());
+        tallies.push(report.mixes(operations));
     }
     let missing: Vec<String> = tallies.iter().flat_map(Tally::never_met).collect();
     if !missing.is_empty() {

@@ -2,7 +2,7 @@
 
 use std::collections::BTreeMap;
 
-use super::language::over;
+use super::language::{mix_name, mixes, over};
 use super::met::{Met, Tally};
 use super::oracle::program::{Contacts, Fault};
 use super::oracle::search::Evaluation;
@@ -18,6 +18,8 @@ const RECORDS: [&str; 4] = ["a label", "a label of zeros", "no label", "a guard 
 pub struct Report {
     /// For each kind of case and sort, how often each number was answered; 0 is no refusal.
     kinds: BTreeMap<(&'static str, Contacts), BTreeMap<u32, u64>>,
+    /// For each kind of case and sort, how often each mix of parameters was compared.
+    mixes: BTreeMap<(&'static str, Contacts), BTreeMap<usize, u64>>,
     /// How often each of RECORDS was read.
     records: [u64; 4],
     verdicts: [[u64; 5]; 2],
@@ -30,6 +32,7 @@ impl Default for Report {
     fn default() -> Self {
         Report {
             kinds: BTreeMap::new(),
+            mixes: BTreeMap::new(),
             records: [0; 4],
             verdicts: [[0; 5]; 2],
             most_passes: 0,
@@ -43,6 +46,12 @@ impl Report {
     /// Counts one case in which library and oracle agree.
     pub fn count(&mut self, kind: &'static str, contacts: Contacts, number: u32) {
         let counts = self.kinds.entry((kind, contacts)).or_default();
+        *counts.entry(number).or_default() += 1;
+    }
+
+    /// Counts a case with functions of the mix of parameters of that number.
+    pub fn mix(&mut self, kind: &'static str, contacts: Contacts, number: usize) {
+        let counts = self.mixes.entry((kind, contacts)).or_default();
         *counts.entry(number).or_default() += 1;
     }
 
@@ -110,6 +119,22 @@ impl Report {
             }
         }
         Tally::new("kind faults by operation", counts)
+    }
+
+    /// Every mix of parameters over both sorts, in kinds of cases.
+    pub fn mixes(&self, kinds: &[&'static str]) -> Tally {
+        let mut counts = Vec::new();
+        for kind in kinds {
+            for contacts in Contacts::ALL {
+                let met = self.mixes.get(&(*kind, contacts));
+                for (number, mix) in mixes(contacts).iter().enumerate() {
+                    let times = met.and_then(|it| it.get(&number));
+                    let words = format!("{} in {kind}{}", mix_name(mix), over(contacts));
+                    counts.push((words, times.copied().unwrap_or(0)));
+                }
+            }
+        }
+        Tally::new("mixes of parameters by operation", counts)
     }
 
     /// Every sort of record.

@@ -2,7 +2,7 @@
 --   kind-in                                   the kinds that both bytes say, read from the signature
 --   signatureFor, byte-small,
 --   param-kind, result-kind                   the signature of a function, and its kinds read from it
---   radix-in, size-means                      how many values a kind has, how many configurations a function has
+--   radix-in, size-from, size-means           how many values a kind has, how many configurations a function has
 --   headsFor                                  what the headers of a program say
 --   total-means                               the cells of all
 --   first-means, signature-means,
@@ -96,7 +96,7 @@ module _ {t : Traces} {n : Lengths} (ls : LengthsOf t n) where
   radix-in k g i b h = ap (λ (x : ℕ). radixOf x n) (kind-in k g i b h) ∙ radix-means ls (kindAt k g i)
 
   -- the size of the parameters that bits from i on say
-  size-from : (k g i m : ℕ) → k < 256 → i + m ≤ 5 → sizeFrom (signatureOf k g) n i m ≡ size t (kindsFrom k g i m)
+  pub size-from : (k g i m : ℕ) → k < 256 → i + m ≤ 5 → sizeFrom (signatureOf k g) n i m ≡ size t (kindsFrom k g i m)
   unfolding sizeFrom kindsFrom
   size-from k g i zero b h = refl
   size-from k g i (suc m) b h = rw (radix-in k g i b (omega arith), add-one i, size-from k g (suc i) m b (omega arith))

@@ -1,8 +1,8 @@
 pub mod SetupLoops
 pub mod PassWays
-pub mod Rows
-pub mod RowLoop
 pub mod FunctionsMeaning
+pub mod Digits
+pub mod CellLoop
 pub mod ValuesMeaning
 pub mod SetupMeaning
 pub mod PassMeaning

@@ -1,7 +1,8 @@
 -- Laws of passes, one for each way through the code:
 --   put-none, put-some                       what a body's outcome leaves in its cell
+--   visit-kept, visit-open                   the visit of a decided cell, and of an undecided one
 --   Visited                                  some configurations of a function have been visited
---   visited-kept, visited-open               one more: a decided cell, an undecided one
+--   visited-start, visited-more              before the first, and after one more
 --   visited-row                              a row more
 --   stores-le                                how many outcomes are stored at most
 --   short-ram, short-guard,
@@ -34,18 +35,20 @@ use Rattle.passes.specs.Mirror.{fits, passVisits, passCounts, cleared}
 -- ---- The visit of a configuration
 
 module _ (S : Setup) (n : Lengths) (g body : ℕ) (T : List ℕ) (i : ℕ) where
-  abbrev heldHere : ℕ
+  abbrev pub heldHere : ℕ
   heldHere = heldIn (functionAt (S .words) g) (getD T (firstOf (S .functions) g + i) 0)
 
-  visit-kept : (heldHere ≡ 0 → ⊥) → (visitAt S n g body T i ≡ T) × (oneUnless (storedAt S n g body T i) ≡ 0)
+  pub visit-kept : (heldHere ≡ 0 → ⊥) → (T ≡ visitAt S n g body T i) × (0 ≡ oneUnless (storedAt S n g body T i))
   unfolding visitAt storedAt
   visit-kept h = (simp (ne-eqb _ _ h), simp (ne-eqb _ _ h))
 
-  visit-open : heldHere ≡ 0
-      → (visitAt S n g body T i ≡ putIn T (firstOf (S .functions) g + i) (filledAt S n g body T i))
-      × (storedAt S n g body T i ≡ filledAt S n g body T i)
-  unfolding visitAt storedAt
-  visit-open h = (simp (eq-eqb _ _ h), simp (eq-eqb _ _ h))
+  -- the body is taken on the values of the configuration
+  pub visit-open : (stored : ℕ) {env T′ : List ℕ} {more : ℕ} → heldHere ≡ 0 → env ≡ envAt (S .functions) n g i
+      → T′ ≡ putIn T (firstOf (S .functions) g + i) (evalWord (S .words) (S .traces) T env mostDepth body)
+      → more ≡ stored + oneUnless (evalWord (S .words) (S .traces) T env mostDepth body)
+      → (T′ ≡ visitAt S n g body T i) × (more ≡ stored + oneUnless (storedAt S n g body T i))
+  unfolding visitAt storedAt filledAt
+  visit-open stored h e v s = (v ∙ simp (eq-eqb _ _ h, e), s ∙ simp (eq-eqb _ _ h, e))
 
   length-put : (c : ℕ) → length (putIn T (firstOf (S .functions) g + i) c) ≡ length T
   length-put c = go (eqb c 0)
@@ -110,63 +113,46 @@ module _ (S : Setup) (n : Lengths) (g body base : ℕ) (T : List ℕ) where
   stores-row (suc k) =
       rw (add-suc base k, zero-add (base + k), visits-row k) (omega (arith, stores-row k))
 
--- from `base` on, i configurations have been visited
-pub record Visited (S : Setup) (n : Lengths) (g body base : ℕ) (T₀ T : List ℕ) (stored i : ℕ) : Type 0 where
+-- from `base` on, i configurations have been visited; `before` outcomes had been stored
+pub record Visited (S : Setup) (n : Lengths) (g body base : ℕ) (T₀ T : List ℕ) (before stored i : ℕ) : Type 0 where
   pub cells : T ≡ visitsFrom S n g body base i T₀
-  pub count : stored ≡ storesFrom S n g body base i T₀
+  pub count : stored ≡ before + storesFrom S n g body base i T₀
 
-pub visited-start : (S : Setup) (n : Lengths) (g body base : ℕ) (T : List ℕ) → Visited S n g body base T T 0 0
+pub visited-start : (S : Setup) (n : Lengths) (g body base : ℕ) (T : List ℕ) (before : ℕ) → Visited S n g body base T T before before 0
 unfolding visitsFrom storesFrom
-visited-start S n g body base T = record { cells = refl; count = refl }
+visited-start S n g body base T before = record { cells = refl; count = omega arith }
 
-module _ {S : Setup} {n : Lengths} {g body base : ℕ} {T₀ T : List ℕ} {stored i : ℕ} (u : Visited S n g body base T₀ T stored i) where
+module _ {S : Setup} {n : Lengths} {g body base : ℕ} {T₀ T : List ℕ} {before stored i : ℕ} (u : Visited S n g body base T₀ T before stored i) where
   pub visited-length : length T ≡ length T₀
   visited-length = ap length (u .cells) ∙ length-visits S n g body base T₀ i
 
-  pub visited-few : stored ≤ i
+  pub visited-few : stored ≤ before + i
   visited-few = omega (arith, u .count, stores-le S n g body base T₀ i)
 
-  next : {T′ : List ℕ} {stored′ : ℕ} → T′ ≡ visitAt S n g body T (base + i) → stored′ ≡ stored + oneUnless (storedAt S n g body T (base + i))
-      → Visited S n g body base T₀ T′ stored′ (i + 1)
-  next v s = record {
+  pub visited-more : {T′ : List ℕ} {stored′ : ℕ} → T′ ≡ visitAt S n g body T (base + i) → stored′ ≡ stored + oneUnless (storedAt S n g body T (base + i))
+      → Visited S n g body base T₀ T′ before stored′ (i + 1)
+  visited-more v s = record {
     cells = v ∙ ap (λ (l : List ℕ). visitAt S n g body l (base + i)) (u .cells) ∙ sym (visits-more S n g body base T₀ i);
-    count = s ∙ simp (u .count, u .cells) (sym (stores-more S n g body base T₀ i));
+    count =
+        let one = ap (λ (l : List ℕ). oneUnless (storedAt S n g body l (base + i))) (u .cells) in
+        omega (arith, s, u .count, one, stores-more S n g body base T₀ i);
   }
 
-  -- the cell that the code comes to
-  module _ {cell h : ℕ} (here : cell ≡ firstOf (S .functions) g + (base + i)) (e : h ≡ heldIn (functionAt (S .words) g) (getD T cell 0)) where
-    held-same : h ≡ heldHere S n g body T (base + i)
-    held-same = e ∙ ap (λ (c : ℕ). heldIn (functionAt (S .words) g) (getD T c 0)) here
-
-    pub visited-kept : (h ≡ 0 → ⊥) → Visited S n g body base T₀ T stored (i + 1)
-    visited-kept z =
-        let k = visit-kept S n g body T (base + i) (λ q. z (held-same ∙ q)) in
-        next (sym (k .0)) (omega (arith, k .1))
-
-    pub visited-open : {env : List ℕ} {more : ℕ} {T′ : List ℕ} → h ≡ 0 → env ≡ envAt (S .functions) n g (base + i)
-        → T′ ≡ putIn T cell (evalWord (S .words) (S .traces) T env mostDepth body)
-        → more ≡ stored + oneUnless (evalWord (S .words) (S .traces) T env mostDepth body)
-        → Visited S n g body base T₀ T′ more (i + 1)
-    unfolding filledAt
-    visited-open {env} z v f s =
-        let k = visit-open S n g body T (base + i) (sym held-same ∙ z) in
-        let same : evalWord (S .words) (S .traces) T env mostDepth body ≡ filledAt S n g body T (base + i) =
-        ap (λ (m : List ℕ). evalWord (S .words) (S .traces) T m mostDepth body) v in
-        next (f ∙ rw (here, same) (sym (k .0))) (s ∙ ap (λ (x : ℕ). stored + oneUnless x) (same ∙ sym (k .1)))
-
   pub visited-end : {last size : ℕ} → i ≤ last → last ≤ i → last ≡ size → (T ≡ visitsFrom S n g body base size T₀)
-      × (stored ≡ storesFrom S n g body base size T₀)
+      × (stored ≡ before + storesFrom S n g body base size T₀)
   visited-end {last} {size} h k e =
       let all : i ≡ size = omega (arith, h, k, e) in
       (rw all at (u .cells), rw all at (u .count))
 
 -- one row more
-pub visited-row : {S : Setup} {n : Lengths} {g body : ℕ} {T₀ T T′ : List ℕ} {stored base more : ℕ} (width : ℕ) → Visited S n g body 0 T₀ T stored base
-    → T′ ≡ visitsFrom S n g body base width T → more ≡ storesFrom S n g body base width T
-    → Visited S n g body 0 T₀ T′ (stored + more) (base + width)
+pub visited-row : {S : Setup} {n : Lengths} {g body : ℕ} {T₀ T T′ : List ℕ} {before stored base stored′ : ℕ} (width : ℕ)
+    → Visited S n g body 0 T₀ T before stored base → T′ ≡ visitsFrom S n g body base width T → stored′ ≡ stored + storesFrom S n g body base width T
+    → Visited S n g body 0 T₀ T′ before stored′ (base + width)
 visited-row {S} {n} {g} {body} {T₀} {base = base} width u v s = record {
   cells = v ∙ ap (visitsFrom S n g body base width) (u .cells) ∙ sym (visits-row S n g body base T₀ width);
-  count = simp (s, u .count, u .cells) (sym (stores-row S n g body base T₀ width));
+  count =
+      let row = ap (storesFrom S n g body base width) (u .cells) in
+      omega (arith, s, u .count, row, stores-row S n g body base T₀ width);
 }
 
 -- ---- Cells within the table

@@ -39,7 +39,7 @@ module _ {bytes : List ℕ} {s : Sort} {P : Program} (a : Accepted bytes s P) wh
         sizes = λ g f e. sizes-mean a (tracesFor ram guard n) n (u .lengths) g f e;
         envs = λ g f i e h.
             rw (signature-is a ram guard n few fits g f e, count-is a ram guard n few fits g f e)
-            (env-means (u .lengths) (u .samples) (f .params) (f .result) (a .fits g f e .params) i h);
+            (env-means (u .lengths) (f .params) (f .result) (a .fits g f e .params) i h);
         bodies = starts-at;
         deep = λ g f e. a .fits g f e .deep;
         fits = λ g f e. a .fits g f e .body;

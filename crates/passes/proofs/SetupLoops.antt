@@ -3,13 +3,12 @@
 --   Product, size-start, size-more, size-fits,
 --   size-whole                                         the product of the sizes of parameters, from the last down
 --   size-nonzero                                       every function has a configuration
---   values-more, values-one, values-none               the values of parameters, from the last down
 --   Listed, listed-start, listed-more,
 --   cells-listed, functions-of, total-of               the array of functions and the total
 --   traces-whole                                       the bytes of the traces, copied into zeros
-use mathlib.Core.Path.{_≡_, refl, sym, ap, _∙_}
+use mathlib.Core.Path.{_≡_, refl, ap, _∙_}
 use mathlib.Core.List.{List, [], _++_, append-assoc}
-use Prim.Native.Nat.{ℕ, zero, suc, _+_, _-_, _*_, _/_, _%_, _^_, _<_, _≤_, min}
+use Prim.Native.Nat.{ℕ, zero, suc, _+_, _-_, _*_, _^_, _<_, _≤_, min}
 use native.Mathlib.Nat.{mul-pos, mul-le-mul, pow-succ', pow-le-pow-right, min-eq-left}
 use native.Mathlib.Numerals.{add-one, sub-one}
 use native.Mathlib.Omega.{arith}
@@ -23,7 +22,7 @@ use Rattle.rule.proofs.Padded.{length-padded}
 use Rattle.codes.specs.declared.Lengths.{Lengths}
 use Rattle.codes.specs.{Short, mostTraceBytes, radixOf}
 use Rattle.codes.proofs.Bounds.{radix-small, radix-pos}
-use Rattle.passes.specs.Mirror.{mostValues, mostConfigurations, shortened, valueNumber, sizeFrom, valuesInto, tracesOf}
+use Rattle.passes.specs.Mirror.{mostValues, mostConfigurations, shortened, sizeFrom, tracesOf}
 use Rattle.passes.specs.Mirror.{Heads, signatureAt, totalBefore, functionsUpto, functionsOf, totalOf}
 
 -- ---- Lengths
@@ -74,29 +73,6 @@ pub size-nonzero : (signature : ℕ) (n : Lengths) (i count : ℕ) → 0 < sizeF
 unfolding sizeFrom
 size-nonzero signature n i zero = omega arith
 size-nonzero signature n i (suc c) = mul-pos (radix-pos (kindIn signature i) n) (size-nonzero signature n (i + 1) c)
-
--- ---- Values
-
-module _ (signature : ℕ) (n : Lengths) where
-  pub values-more : (i rest : ℕ) (env : List ℕ) {kind radix value : ℕ} {all : List ℕ} → all ≡ valuesInto signature n i rest env → 1 < i
-      → kind ≡ kindIn signature (i - 1) → radix ≡ radixOf kind n → value ≡ valueNumber kind (rest % radix)
-      → all ≡ valuesInto signature n (i - 1) (rest / radix) (set env (i - 1) value)
-  unfolding valuesInto
-  values-more zero rest env e h b r v = absurd (omega arith)
-  values-more (suc zero) rest env e h b r v = absurd (omega arith)
-  values-more (suc (suc i)) rest env e h b r v = simp (v, r, b, sub-one) e
-
-  pub values-one : (i rest : ℕ) (env : List ℕ) {kind value : ℕ} {all : List ℕ} → all ≡ valuesInto signature n i rest env → i ≤ 1 → 0 < i
-      → kind ≡ kindIn signature 0 → value ≡ valueNumber kind rest → set env 0 value ≡ all
-  unfolding valuesInto
-  values-one zero rest env e l h b v = absurd (omega arith)
-  values-one (suc zero) rest env e l h b v = simp (v, b) (sym e)
-  values-one (suc (suc i)) rest env e l h b v = absurd (omega arith)
-
-  pub values-none : (i rest : ℕ) (env : List ℕ) {all : List ℕ} → all ≡ valuesInto signature n i rest env → i ≤ 0 → env ≡ all
-  unfolding valuesInto
-  values-none zero rest env e h = sym e
-  values-none (suc i) rest env e h = absurd (omega arith)
 
 -- ---- Functions
 

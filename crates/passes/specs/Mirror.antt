@@ -1,15 +1,15 @@
 -- A mirror of the code: outcomes as their numbers, bodies by their decoded words, functions by an array of first cells,
 -- signatures and counts. No reader need believe it: proofs/ shows that it comes to what the rules say.
-use Prim.Native.Nat.{ℕ, zero, suc, _+_, _-_, _*_, _/_, _%_, _<_, _≤_, min}
+use Prim.Native.Nat.{ℕ, zero, suc, _+_, _-_, _*_, _%_, _<_, _≤_, min}
 use mathlib.Core.Path.{_≡_}
 use mathlib.Core.Bool.{Bool, _&&_, cond}
-use mathlib.Core.List.{List, [], _∷_, _++_}
+use mathlib.Core.List.{List, _++_}
 use lib.Dec.{ltb, leb, eqb}
 use lib.ListN.{length, getD, set, take, drop, replicate}
 use Rattle.trace.specs.{mostSamples}
 use Rattle.semantics.specs.Cells.{undecidedCode}
 use Rattle.codes.specs.declared.Lengths.{Lengths}
-use Rattle.codes.specs.{mostTraceBytes, ramOffset, guardOffset, Short, radixOf, valueCode, lowestCode, cellCode}
+use Rattle.codes.specs.{mostTraceBytes, Short, radixOf, cellCode}
 use Rattle.syntax.specs.Limits.{mostFunctions, mostBytes, mostDepth}
 use Rattle.syntax.specs.Kinds.{signatureOf, kindIn}
 use Rattle.rule.specs.declared.Outline.{Outline}
@@ -17,7 +17,8 @@ use Rattle.rule.specs.Form.{padded}
 use Rattle.rule.specs.Walk.{atMostFour}
 use Rattle.decoding.specs.Words.{heldIn}
 use Rattle.decoding.specs.Decoding.{signatureIn}
-use Rattle.evaluator.specs.{digitBound, functionAt, evalWord}
+use Rattle.evaluator.specs.{functionAt, evalWord}
+use Rattle.passes.specs.Digits.{valuesOf, envOf, firstsOf, lastsOf}
 
 -- ---- Configurations
 
@@ -41,44 +42,6 @@ shortened n = record { ram = min (n .ram) mostSamples; guard = min (n .guard) mo
 unfoldable pub sizeFrom : ℕ → Lengths → ℕ → ℕ → ℕ
 sizeFrom signature n i zero = 1
 sizeFrom signature n i (suc left) = radixOf (kindIn signature i) n * sizeFrom signature n (i + 1) left
-
--- the working number of a value of a kind, by its digit
-abbrev pub valueNumber : ℕ → ℕ → ℕ
-valueNumber kind digit = valueCode kind (digit % digitBound) % digitBound
-
--- the numbers of the values of parameters 0 to i - 1 in configuration `index`, put into env
-unfoldable pub valuesInto : ℕ → Lengths → ℕ → ℕ → List ℕ → List ℕ
-valuesInto signature n zero index env = env
-valuesInto signature n (suc zero) index env = set env 0 (valueNumber (kindIn signature 0) index)
-valuesInto signature n (suc (suc i)) index env =
-    let radix = radixOf (kindIn signature (suc i)) n in
-    valuesInto signature n (suc i) (index / radix) (set env (suc i) (valueNumber (kindIn signature (suc i)) (index % radix)))
-
--- A row: the configurations in which only the last parameter differs. Where there is no parameter, a row has one
--- configuration, and parameter 0 stands for the last with the one number 0.
-
-abbrev pub rowWidth : ℕ → Lengths → ℕ → ℕ
-rowWidth signature n zero = 1
-rowWidth signature n (suc c) = radixOf (kindIn signature c) n
-
--- the number of the last parameter's first value
-abbrev pub rowLowest : ℕ → ℕ → ℕ
-rowLowest signature zero = 0
-rowLowest signature (suc c) = lowestCode (kindIn signature c)
-
--- the working numbers of the first values of four parameters
-abbrev pub firstValue : ℕ → ℕ → ℕ
-firstValue signature i = lowestCode (kindIn signature i)
-
-abbrev pub firstsOf : ℕ → List ℕ
-firstsOf signature = firstValue signature 0 ∷ firstValue signature 1 ∷ firstValue signature 2 ∷ firstValue signature 3 ∷ []
-
--- and of their last values
-abbrev pub lastValue : ℕ → Lengths → ℕ → ℕ
-lastValue signature n i = lowestCode (kindIn signature i) + radixOf (kindIn signature i) n - 1
-
-abbrev pub lastsOf : ℕ → Lengths → List ℕ
-lastsOf signature n = lastValue signature n 0 ∷ lastValue signature n 1 ∷ lastValue signature n 2 ∷ lastValue signature n 3 ∷ []
 
 -- the values of so many parameters stepped as digits, by the first and the last value of each: the last digit goes up by one,
 -- with a carry to the left where it has reached its last value
@@ -114,13 +77,23 @@ bodyAt words start = getD words (start % mostBytes) 0
 abbrev pub sizeOf : List ℕ → Lengths → ℕ → ℕ
 sizeOf functions n g = sizeFrom (signatureIn functions g) n 0 (countOf functions g)
 
--- what parameter values are put into; at 4 and 5 it has the origins of places
-abbrev pub blank : Lengths → List ℕ
-blank n = 0 ∷ 0 ∷ 0 ∷ 0 ∷ (n .ram + ramOffset) ∷ (n .guard + guardOffset) ∷ []
+-- the place of the last parameter; 0 where there is none
+abbrev pub lastOf : List ℕ → ℕ → ℕ
+lastOf functions g = countOf functions g - 1
+
+-- the first and the last value of the last parameter, and how many it has
+abbrev pub lowOf : List ℕ → ℕ → ℕ
+lowOf functions g = getD (firstsOf (signatureIn functions g) (countOf functions g)) (lastOf functions g) 0
+
+abbrev pub highOf : List ℕ → Lengths → ℕ → ℕ
+highOf functions n g = getD (lastsOf (signatureIn functions g) (countOf functions g) n) (lastOf functions g) 0
+
+abbrev pub widthOf : List ℕ → Lengths → ℕ → ℕ
+widthOf functions n g = highOf functions n g + 1 - lowOf functions g
 
 -- the parameter values of configuration `index` of a function
 abbrev pub envAt : List ℕ → Lengths → ℕ → ℕ → List ℕ
-envAt functions n g index = valuesInto (signatureIn functions g) n (countOf functions g) index (blank n)
+envAt functions n g index = envOf n (valuesOf (signatureIn functions g) (countOf functions g) n index)
 
 -- the number of the outcome of a configuration's body, with calls looked up in the table
 unfoldable pub filledAt : Setup → Lengths → ℕ → ℕ → List ℕ → ℕ → ℕ
@@ -159,13 +132,13 @@ pub record Ready (functions : List ℕ) (n : Lengths) (g len : ℕ) : Type 0 whe
   pub samples : Short n
   pub within : firstOf functions g + sizeOf functions n g ≤ len
 
--- a row of such a function, from configuration `base` on, with the values of its other parameters in env: with the last
--- parameter's number put in they are those of each configuration of the row
-pub record RowReady (functions : List ℕ) (n : Lengths) (g len base : ℕ) (env : List ℕ) : Type 0 where
+-- what is worked out of such a function once in a pass: its word, the place of the last parameter, the first value of that and how many it has
+pub record RowReady (words functions : List ℕ) (n : Lengths) (g len function slot low width : ℕ) : Type 0 where
   pub ready : Ready functions n g len
-  pub inside : base + rowWidth (signatureIn functions g) n (countOf functions g) ≤ sizeOf functions n g
-  pub values : (d : ℕ) → d < rowWidth (signatureIn functions g) n (countOf functions g)
-      → set env (countOf functions g - 1) (rowLowest (signatureIn functions g) (countOf functions g) + d) ≡ envAt functions n g (base + d)
+  pub word : function ≡ functionAt words g
+  pub place : slot ≡ lastOf functions g
+  pub first : low ≡ lowOf functions g
+  pub wide : width ≡ widthOf functions n g
 
 -- two arrays of values that differ in the last parameter's place at most
 abbrev pub SameOthers : ℕ → List ℕ → List ℕ → Type 0

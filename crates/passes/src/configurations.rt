@@ -1,11 +1,12 @@
 // The configurations of a function: how many there are, and the parameter values of each. A function is given by its signature.
 use codes::Lengths;
 ghost use mathlib.Core.Path.{_≡_};
-ghost use Prim.Native.Nat.{_-_, _<_, _≤_};
+ghost use Prim.Native.Nat.{_+_, _-_, _<_, _≤_};
+ghost use lib.ListN.{getD};
 ghost use Rattle.syntax.specs.Limits.{mostFunctions, mostParams};
-ghost use Rattle.evaluator.specs.{digitBound};
 ghost use Rattle.codes.specs.{Short};
-ghost use Rattle.passes.specs.Mirror.{mostConfigurations, short, shortened, countOf, sizeFrom, valuesInto, valueNumber, rowWidth, rowLowest, firstValue, firstsOf, lastValue, lastsOf, stepped};
+ghost use Rattle.passes.specs.Digits.{arrayOf, firstValue, firstsOf, lastValue, lastsOf, StepsCells};
+ghost use Rattle.passes.specs.Mirror.{mostConfigurations, short, shortened, countOf, sizeFrom, stepped};
 
 // The number of parameters of function g.
 pub fn count(functions: &[u64; 96], g: usize) -> u64
@@ -29,33 +30,6 @@ pub fn size(signature: u64, count: u64, n: Lengths) -> u64
     product
 }
 
-// Writes the numbers of the parameter values of a configuration. What is left of its number after the other
-// parameters is the place of the first one's value: it takes no division.
-pub fn values(signature: u64, count: u64, n: Lengths, index: u64, env: &mut [u16; 6])
-    requires { ⌜ (count ≤ mostParams) × Short n ⌝ }
-    ensures { λ _. ⌜ now (env .exit) ≡ valuesInto signature n count index (now (env .entry)) ⌝ }
-{
-    let mut rest = index;
-    let mut i = count;
-    while 1 < i {
-        i -= 1;
-        let kind = syntax::kind_at(signature, i);
-        let radix = codes::radix(kind, n);
-        env[i as usize] = value(kind, rest % radix);
-        rest = rest / radix;
-    }
-    if 0 < i {
-        env[0] = value(syntax::kind_at(signature, 0), rest);
-    }
-}
-
-// The working number of a value of a kind, by its place among them, which is below 65,536.
-fn value(kind: u8, digit: u64) -> u16
-    ensures { λ r. ⌜ r ≡ valueNumber kind digit ⌝ }
-{
-    ((digit % 65536 + codes::lowest(kind)) % 65536) as u16
-}
-
 // The place of the last parameter; 0 where there is none.
 pub fn last(count: u64) -> u64
     ensures { λ r. ⌜ r ≡ count - 1 ⌝ }
@@ -63,90 +37,101 @@ pub fn last(count: u64) -> u64
     if count == 0 { 0 } else { count - 1 }
 }
 
-// How many configurations a row has, in which only the last parameter differs.
-pub fn row_width(signature: u64, count: u64, n: Lengths) -> u64
-    ensures { λ r. ⌜ r ≡ rowWidth signature n count ⌝ }
-{
-    if count == 0 {
-        return 1;
-    }
-    codes::radix(syntax::kind_at(signature, count - 1), n)
-}
-
-// The number of the last parameter's first value.
-pub fn row_lowest(signature: u64, count: u64) -> u64
-    ensures { λ r. ⌜ r ≡ rowLowest signature count ⌝ }
-{
-    if count == 0 {
-        return 0;
-    }
-    codes::lowest(syntax::kind_at(signature, count - 1))
-}
-
-// The working numbers of the first values of a function's parameters.
-pub fn firsts(signature: u64) -> [u16; 4]
-    ensures { λ r. ⌜ r ≡ firstsOf signature ⌝ }
+// The first values of a function's parameters, by their working numbers; 0 for an absent one.
+pub fn firsts(signature: u64, count: u64) -> [u16; 4]
+    ensures { λ r. ⌜ r ≡ firstsOf signature count ⌝ }
 {
     [
-        first_value(signature, 0),
-        first_value(signature, 1),
-        first_value(signature, 2),
-        first_value(signature, 3),
+        first_value(signature, count, 0),
+        first_value(signature, count, 1),
+        first_value(signature, count, 2),
+        first_value(signature, count, 3),
     ]
 }
 
 // That of parameter i.
-fn first_value(signature: u64, i: u64) -> u16
-    ensures { λ r. ⌜ r ≡ firstValue signature i ⌝ }
+fn first_value(signature: u64, count: u64, i: u64) -> u16
+    ensures { λ r. ⌜ r ≡ firstValue signature count i ⌝ }
 {
+    if count <= i {
+        return 0;
+    }
     codes::lowest(syntax::kind_at(signature, i)) as u16
 }
 
-// The working numbers of their last values.
-pub fn lasts(signature: u64, n: Lengths) -> [u16; 4]
+// Their last values.
+pub fn lasts(signature: u64, count: u64, n: Lengths) -> [u16; 4]
     requires { ⌜ Short n ⌝ }
-    ensures { λ r. ⌜ r ≡ lastsOf signature n ⌝ }
+    ensures { λ r. ⌜ r ≡ lastsOf signature count n ⌝ }
 {
     [
-        last_value(signature, 0, n),
-        last_value(signature, 1, n),
-        last_value(signature, 2, n),
-        last_value(signature, 3, n),
+        last_value(signature, count, 0, n),
+        last_value(signature, count, 1, n),
+        last_value(signature, count, 2, n),
+        last_value(signature, count, 3, n),
     ]
 }
 
 // That of parameter i.
-fn last_value(signature: u64, i: u64, n: Lengths) -> u16
+fn last_value(signature: u64, count: u64, i: u64, n: Lengths) -> u16
     requires { ⌜ Short n ⌝ }
-    ensures { λ r. ⌜ r ≡ lastValue signature n i ⌝ }
+    ensures { λ r. ⌜ r ≡ lastValue signature count n i ⌝ }
 {
+    if count <= i {
+        return 0;
+    }
     let kind = syntax::kind_at(signature, i);
     (codes::lowest(kind) + codes::radix(kind, n) - 1) as u16
 }
 
-// Steps the values of the first so many parameters as digits, by the first and the last value of each: the last digit
-// goes up by one, with a carry to the left where it has reached its last value.
-pub fn step(firsts: &[u16; 4], lasts: &[u16; 4], count: u64, env: &mut [u16; 6])
-    requires { ⌜ count ≤ mostParams ⌝ }
-    ensures { λ _. ⌜ now (env .exit) ≡ stepped (now (firsts .entry)) (now (lasts .entry)) count (now (env .entry)) ⌝ }
+// The parameter values of a function's first cell, and at 4 and 5 the origins of places.
+pub fn first_values(firsts: &[u16; 4], n: Lengths) -> [u16; 6]
+    requires { ⌜ Short n ⌝ }
+    ensures { λ r. ⌜ r ≡ arrayOf (now (firsts .entry)) n ⌝ }
 {
-    let mut i = count;
+    [
+        firsts[0],
+        firsts[1],
+        firsts[2],
+        firsts[3],
+        n.ram + codes::RAM_OFFSET,
+        n.guard + codes::GUARD_OFFSET,
+    ]
+}
+
+// How many values the last parameter has, by the first and the last.
+pub fn row_width(first: u16, last: u16) -> u64
+    requires { ⌜ first ≤ last ⌝ }
+    ensures { λ r. ⌜ r ≡ last + 1 - first ⌝ }
+{
+    last as u64 + 1 - first as u64
+}
+
+// Steps the parameter values from the last cell of a row to the first of the next, as digits: the last parameter, which stands at `slot`, goes
+// from its last value back to its first, with a carry to the left: the one before it goes up by one, and where that has reached its last value the carry
+// goes on. `env` has the values of those before `slot`.
+pub fn step(firsts: &[u16; 4], lasts: &[u16; 4], slot: usize, env: &mut [u16; 6])
+    requires { ⌜ slot < mostParams ⌝ }
+    ensures digits { λ _. ⌜ now (env .exit) ≡ stepped (now (firsts .entry)) (now (lasts .entry)) slot (now (env .entry)) ⌝ }
+    ensures next { λ _. ⌜ StepsCells (now (firsts .entry)) (now (lasts .entry)) slot (now (env .entry)) (getD (now (lasts .entry)) slot 0) (now (env .exit)) (getD (now (firsts .entry)) slot 0) ⌝ }
+{
+    let mut i = slot;
     while 0 < i {
         i -= 1;
-        let next = wide(env[i as usize]) + 1;
-        if next <= wide(lasts[i as usize]) {
-            env[i as usize] = next as u16;
+        if env[i] < lasts[i] {
+            env[i] = up(env[i], lasts[i]);
             return;
         }
-        env[i as usize] = firsts[i as usize];
+        env[i] = firsts[i];
     }
 }
 
-// A number of 16 bits as one of 64.
-fn wide(number: u16) -> u64
-    ensures { λ r. ⌜ (r ≡ number) × (r < digitBound) ⌝ }
+// A digit that has not reached its last value goes up by one.
+fn up(digit: u16, last: u16) -> u16
+    requires { ⌜ digit < last ⌝ }
+    ensures { λ r. ⌜ r ≡ digit + 1 ⌝ }
 {
-    number as u64
+    digit + 1
 }
 
 // Whether traces can have such lengths.

@@ -9,12 +9,13 @@ use decoding::functions::FUNCTIONS;
 use decoding::functions::STRIDE;
 use decoding::functions::WORDS;
 ghost use mathlib.Core.Path.{_≡_};
-ghost use Prim.Native.Nat.{_+_, _-_, _<_, _≤_};
+ghost use Prim.Native.Nat.{_+_, _<_, _≤_};
 ghost use lib.ListN.{length, set};
 ghost use Rattle.syntax.specs.Limits.{mostDepth};
-ghost use Rattle.evaluator.specs.{digitBound, evalWord};
 ghost use Rattle.decoding.specs.Decoding.{signatureIn};
-ghost use Rattle.passes.specs.Mirror.{setup, countOf, sizeOf, rowWidth, Ready, RowReady, SameOthers, fits, bodyAt, putIn, oneUnless};
+ghost use Rattle.evaluator.specs.{functionAt, evalWord};
+ghost use Rattle.passes.specs.Digits.{AtCell};
+ghost use Rattle.passes.specs.Mirror.{setup, firstOf, countOf, lastOf, sizeOf, Ready, RowReady, SameOthers, fits, bodyAt, putIn, storedAt, visitAt, oneUnless};
 ghost use Rattle.passes.specs.Mirror.{visitsFrom, storesFrom, passVisits, passCounts, mostConfigurations, cleared, mainCellOf};
 
 // One pass over the cells of so many functions: how many outcomes it stored. A function whose cells do not
@@ -71,7 +72,8 @@ fn body_of(words: &[u64; WORDS], start: u16) -> u64
     words[(start % 4096) as usize]
 }
 
-// Visits the configurations of a function in rising order, row by row: how many outcomes were stored.
+// Visits the cells of a function in rising order, row by row: how many outcomes were stored. In a row only the last parameter's value
+// differs; the others step from row to row.
 fn pass_function(
     words: &[u64; WORDS],
     traces: &[u8; codes::TRACES_BYTES],
@@ -87,34 +89,43 @@ fn pass_function(
 {
     let signature = functions[32 + g];
     let count = configurations::count(functions, g);
-    let others = configurations::last(count);
-    let rows = configurations::size(signature, others, n);
-    let width = configurations::row_width(signature, count, n) as usize;
-    let mut env = [
-        0,
-        0,
-        0,
-        0,
-        n.ram + codes::RAM_OFFSET,
-        n.guard + codes::GUARD_OFFSET,
-    ];
-    configurations::values(signature, others, n, 0, &mut env);
-    let firsts = configurations::firsts(signature);
-    let lasts = configurations::lasts(signature, n);
+    let size = configurations::size(signature, count, n);
+    let slot = configurations::last(count) as usize;
+    let firsts = configurations::firsts(signature, count);
+    let lasts = configurations::lasts(signature, count, n);
+    let function = words[FUNCTIONS + STRIDE * g];
+    let first = functions[g];
+    let low = firsts[slot];
+    let width = configurations::row_width(low, lasts[slot]);
+    let mut env = configurations::first_values(&firsts, n);
     let mut stored: usize = 0;
-    let mut base: usize = 0;
-    let mut r: u64 = 0;
-    while r < rows {
-        stored += row(words, traces, functions, table, &mut env, n, g, body, base);
-        configurations::step(&firsts, &lasts, others, &mut env);
-        base += width;
-        r += 1;
+    let mut index: u64 = 0;
+    while index < size {
+        stored = row(
+            words,
+            traces,
+            functions,
+            table,
+            &mut env,
+            n,
+            g,
+            function,
+            body,
+            slot,
+            index,
+            first + index,
+            low,
+            width,
+            stored,
+        );
+        configurations::step(&firsts, &lasts, slot, &mut env);
+        index += width;
     }
     stored
 }
 
-// Visits the configurations of a row, from one on: how many outcomes were stored. `env` has the values of the
-// other parameters; that of the last is put in at undecided cells. A decided cell costs a load and two tests.
+// Visits the cells of a row, from configuration `index` on, whose cell is `start`: how many outcomes are then stored, if so many were before. `env`
+// has the values of all parameters but the last, whose first value is `low`; the others follow it.
 fn row(
     words: &[u64; WORDS],
     traces: &[u8; codes::TRACES_BYTES],
@@ -123,41 +134,75 @@ fn row(
     env: &mut [u16; 6],
     n: Lengths,
     g: usize,
+    function: u64,
     body: u64,
-    base: usize,
+    slot: usize,
+    index: u64,
+    start: u64,
+    low: u16,
+    width: u64,
+    before: usize,
 ) -> usize
-    requires { ⌜ RowReady (now functions) n g (length (now table)) base (now env) ⌝ }
-    ensures cells { λ _. ⌜ now (table .exit) ≡ visitsFrom (setup (now (words .entry)) (now (functions .entry)) (now (traces .entry))) n g body base (rowWidth (signatureIn (now (functions .entry)) g) n (countOf (now (functions .entry)) g)) (now (table .entry)) ⌝ }
-    ensures env { λ _. ⌜ SameOthers (countOf (now (functions .entry)) g - 1) (now (env .entry)) (now (env .exit)) ⌝ }
-    ensures stored { λ r. ⌜ r ≡ storesFrom (setup (now (words .entry)) (now (functions .entry)) (now (traces .entry))) n g body base (rowWidth (signatureIn (now (functions .entry)) g) n (countOf (now (functions .entry)) g)) (now (table .entry)) ⌝ }
+    requires { ⌜ AtCell (signatureIn (now functions) g) (countOf (now functions) g) n index (now env) low ⌝ }
+    requires { ⌜ RowReady (now words) (now functions) n g (length (now table)) function slot low width ⌝ }
+    requires { ⌜ (start ≡ firstOf (now functions) g + index) × (before ≤ index) ⌝ }
+    ensures cells { λ _. ⌜ now (table .exit) ≡ visitsFrom (setup (now (words .entry)) (now (functions .entry)) (now (traces .entry))) n g body index width (now (table .entry)) ⌝ }
+    ensures env { λ _. ⌜ SameOthers (lastOf (now (functions .entry)) g) (now (env .entry)) (now (env .exit)) ⌝ }
+    ensures stored { λ r. ⌜ r ≡ before + storesFrom (setup (now (words .entry)) (now (functions .entry)) (now (traces .entry))) n g body index width (now (table .entry)) ⌝ }
 {
-    let signature = functions[32 + g];
-    let count = configurations::count(functions, g);
-    let function = words[FUNCTIONS + STRIDE * g];
-    let slot = configurations::last(count) as usize;
-    let lowest = configurations::row_lowest(signature, count);
-    let width = configurations::row_width(signature, count, n);
-    let start = functions[g] + base as u64;
-    let mut stored: usize = 0;
+    let mut stored = before;
     let mut d: u64 = 0;
     while d < width {
-        let cell = (start + d) as usize;
-        if functions::held(function, table[cell]) == codes::UNDECIDED {
-            stored = fill(
-                words,
-                traces,
-                table,
-                env,
-                body,
-                slot,
-                (lowest + d) as u16,
-                cell,
-                stored,
-            );
-        }
+        stored = visit(
+            words,
+            traces,
+            functions,
+            table,
+            env,
+            n,
+            g,
+            function,
+            body,
+            slot,
+            index + d,
+            (start + d) as usize,
+            low + d as u16,
+            stored,
+        );
         d += 1;
     }
     stored
+}
+
+// Visits a cell: how many outcomes are then stored, if so many were. `functions`, `n`, `g` and `index` say which cell it is. `env` has the
+// values of all parameters but the last, whose value is `digit`; it is put in if the cell is undecided. A decided cell costs a load and two tests.
+fn visit(
+    words: &[u64; WORDS],
+    traces: &[u8; codes::TRACES_BYTES],
+    functions: &[u64; 96],
+    table: &mut [u16],
+    env: &mut [u16; 6],
+    n: Lengths,
+    g: usize,
+    function: u64,
+    body: u64,
+    slot: usize,
+    index: u64,
+    cell: usize,
+    digit: u16,
+    stored: usize,
+) -> usize
+    requires { ⌜ AtCell (signatureIn (now functions) g) (countOf (now functions) g) n index (now env) digit ⌝ }
+    requires { ⌜ Ready (now functions) n g (length (now table)) × (stored ≤ mostConfigurations) ⌝ }
+    requires { ⌜ (function ≡ functionAt (now words) g) × (slot ≡ lastOf (now functions) g) × (cell ≡ firstOf (now functions) g + index) ⌝ }
+    ensures cells { λ _. ⌜ now (table .exit) ≡ visitAt (setup (now (words .entry)) (now (functions .entry)) (now (traces .entry))) n g body (now (table .entry)) index ⌝ }
+    ensures env { λ _. ⌜ SameOthers (lastOf (now (functions .entry)) g) (now (env .entry)) (now (env .exit)) ⌝ }
+    ensures stored { λ r. ⌜ r ≡ stored + oneUnless (storedAt (setup (now (words .entry)) (now (functions .entry)) (now (traces .entry))) n g body (now (table .entry)) index) ⌝ }
+{
+    if functions::held(function, table[cell]) != codes::UNDECIDED {
+        return stored;
+    }
+    fill(words, traces, table, env, body, slot, digit, cell, stored)
 }
 
 // Puts a value in, takes the body on the values and stores what is decided in a cell: how many outcomes are then
@@ -173,7 +218,7 @@ fn fill(
     cell: usize,
     stored: usize,
 ) -> usize
-    requires { ⌜ (slot < 6) × (cell < length (now table)) × (stored < digitBound) ⌝ }
+    requires { ⌜ (slot < 6) × (cell < length (now table)) × (stored ≤ mostConfigurations) ⌝ }
     ensures cells { λ _. ⌜ now (table .exit) ≡ putIn (now (table .entry)) cell (evalWord (now (words .entry)) (now (traces .entry)) (now (table .entry)) (set (now (env .entry)) slot value) mostDepth body) ⌝ }
     ensures env { λ _. ⌜ now (env .exit) ≡ set (now (env .entry)) slot value ⌝ }
     ensures stored { λ r. ⌜ r ≡ stored + oneUnless (evalWord (now (words .entry)) (now (traces .entry)) (now (table .entry)) (set (now (env .entry)) slot value) mostDepth body) ⌝ }

@@ -3,6 +3,7 @@ pub mod Unique
 pub mod Demands
 pub mod Bodies
 pub mod Numbering
+pub mod Digits
 pub mod Cells
 pub mod Visits
 pub mod Passes

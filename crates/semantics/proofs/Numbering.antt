@@ -1,5 +1,6 @@
 -- The numbers of configurations, for any number of parameters and functions:
 --   kind-pos, size-pos, number-lt               there is one, and a configuration's number is below their count
+--   digit-lt, value-digit, digit-value          the place of a value among those of its kind, and back
 --   values-number, number-values, values-in     numbers and values of their kinds are inverse to each other
 --   cell-lt, config-cell                        the cell of a configuration is a cell, and stands for it
 --   Place, here, place                          each cell is some configuration's
@@ -28,21 +29,21 @@ pub kind-pos : (t : Traces) (κ : Kind) → 0 < kindSize t κ
 kind-pos t truth = omega arith
 kind-pos t (list c) = omega arith
 
-digit-lt : (t : Traces) (κ : Kind) (v : Value) → T (inKind t κ v) → digitOf v < kindSize t κ
+pub digit-lt : (t : Traces) (κ : Kind) (v : Value) → T (inKind t κ v) → digitOf v < kindSize t κ
 digit-lt t truth (bit true) h = omega arith
 digit-lt t truth (bit false) h = omega arith
 digit-lt t truth (suffix c k) h = absurd h
 digit-lt t (list c) (bit b) h = absurd h
 digit-lt t (list c) (suffix c′ k) h = omega (arith, suffix-in t c c′ k h .1)
 
-value-digit : (t : Traces) (κ : Kind) (v : Value) → T (inKind t κ v) → valueAt κ (digitOf v) ≡ v
+pub value-digit : (t : Traces) (κ : Kind) (v : Value) → T (inKind t κ v) → valueAt κ (digitOf v) ≡ v
 value-digit t truth (bit true) h = refl
 value-digit t truth (bit false) h = refl
 value-digit t truth (suffix c k) h = absurd h
 value-digit t (list c) (bit b) h = absurd h
 value-digit t (list c) (suffix c′ k) h = rw (suffix-in t c c′ k h .0)
 
-digit-value : (t : Traces) (κ : Kind) (i : ℕ) → i < kindSize t κ → digitOf (valueAt κ i) ≡ i
+pub digit-value : (t : Traces) (κ : Kind) (i : ℕ) → i < kindSize t κ → digitOf (valueAt κ i) ≡ i
 digit-value t truth zero h = refl
 digit-value t truth (suc zero) h = refl
 digit-value t truth (suc (suc i)) h = omega arith

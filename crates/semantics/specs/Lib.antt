@@ -2,6 +2,7 @@
 --   Language   kinds, expressions, functions, programs; values and outcomes; well-kinded programs
 --   Rules      'Evaluation': the rules, as finite derivations
 --   Numbering  'Table and passes': configurations and their numbers
+--   Digits     document 02: the step from a configuration to the next
 --   Cells      the content of a cell
 --   Bodies     the outcome of a body with its calls looked up
 --   Visits     a pass, on a table with any content
@@ -12,6 +13,7 @@
 pub mod Language
 pub mod Rules
 pub mod Numbering
+pub mod Digits
 pub mod Cells
 pub mod Bodies
 pub mod Visits

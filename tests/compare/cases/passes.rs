@@ -11,45 +11,50 @@ use super::{executable, hex, Bench, Compared};
 /// In every so many rounds a script is run.
 const EVERY: u64 = 48;
 /// The passes of a script, and the most bytes of one; together they stay below the longest script.
-const LINES: usize = 12;
-const MOST_LINE: usize = 5_000;
+pub const LINES: usize = 12;
+pub const MOST_LINE: usize = 5_000;
 
 /// A script of passes, if an executable is named.
 pub fn run(bench: &mut Bench) -> Compared {
     match bench.cases {
         Some(path) if bench.round.is_multiple_of(EVERY) => {
-            let lines: Vec<String> = (0..LINES).map(|_| line(bench)).collect();
+            let lines: Vec<String> = (0..LINES).map(|_| any_line(bench)).collect();
             compare(bench, path, &lines)
         }
         _ => Ok(()),
     }
 }
 
-/// A pass of a program over a table, short enough for a script.
-fn line(bench: &mut Bench) -> String {
+/// A pass of any program over a table, short enough for a script.
+fn any_line(bench: &mut Bench) -> String {
     loop {
         let case = case(bench);
         let mut traces = trace::packed(&case.samples);
         if bench.random.one_in(12) {
             set_padding(bench, &mut traces);
         }
-        let operation = match traces.contacts() {
-            Contacts::One => "pass",
-            Contacts::Two => "pass-two",
-        };
-        let fields: Vec<String> = traces.each().map(trace_fields).collect();
         let table = table(bench, &case);
-        let cells: Vec<String> = table.iter().map(u16::to_string).collect();
-        let line = format!(
-            "case: {operation} {} {} {}\n",
-            hex(&case.program).to_uppercase(),
-            fields.join(" "),
-            cells.join("+")
-        );
+        let line = line(&case.program, &traces, &table);
         if line.len() <= MOST_LINE {
             return line;
         }
     }
+}
+
+/// A pass of a program over a table, as a line of a script.
+pub fn line(program: &[u8], traces: &Traces, table: &[u16]) -> String {
+    let operation = match traces.contacts() {
+        Contacts::One => "pass",
+        Contacts::Two => "pass-two",
+    };
+    let fields: Vec<String> = traces.each().map(trace_fields).collect();
+    let cells: Vec<String> = table.iter().map(u16::to_string).collect();
+    format!(
+        "case: {operation} {} {} {}\n",
+        hex(program).to_uppercase(),
+        fields.join(" "),
+        cells.join("+")
+    )
 }
 
 /// Sets a bit above the last sample of a contact.
@@ -103,7 +108,7 @@ fn table(bench: &mut Bench, case: &Case) -> Vec<u16> {
 }
 
 /// Compares what the executable prints of a script.
-fn compare(bench: &mut Bench, path: &str, lines: &[String]) -> Compared {
+pub fn compare(bench: &mut Bench, path: &str, lines: &[String]) -> Compared {
     let script = lines.concat();
     let (want, whole) = script::text(script.as_bytes());
     assert!(whole, "the script can be read");

@@ -2,7 +2,9 @@
 //! evaluating left.
 
 use super::super::generate::programs::{self, MOST_BYTES};
-use super::super::language::{kind_name, kind_number, kinds, Outcome, Place, Sort, GUARD, RAM};
+use super::super::language::{
+    kind_name, kind_number, kinds, mix_name, Outcome, Place, Sort, GUARD, RAM,
+};
 use super::super::oracle::program::{Contact, Contacts, Kind, Value};
 use super::super::oracle::trace::Samples;
 
@@ -100,9 +102,8 @@ impl Kinds {
     }
 
     pub fn name(self) -> String {
-        let names: Vec<&str> = self.parameters().iter().copied().map(kind_name).collect();
         let result = kind_name(self.result);
-        format!("parameters ({}), giving a {result}", names.join(", "))
+        format!("{}, giving a {result}", mix_name(self.parameters()))
     }
 
     /// What may come of a call. Without a list of that contact at hand there is only the empty one.

@@ -1,0 +1,3 @@
+/* The decoding evaluator with a pass that divides. */
+#define DIVIDING
+#include "decoded.c"
