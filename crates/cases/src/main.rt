@@ -22,7 +22,7 @@
 // stands for none. Of a SAMPLE the first byte counts; a missing one is 0.
 //
 // A case prints its name, the answer, and each memory that the operation may write as it is afterwards, in the
-// same form: four equal bytes or more, and equal cells, are repeated by '*'; after 40 runs of equal ones it says
+// same form: four equal bytes or more, and equal cells, are repeated by '*'; after 400 runs of equal ones it says
 // how many words follow, and a sum of them. 'fill' adds the samples to a new ring one by one; 'check-record' reads
 // and checks; 'walk' goes from the last record to the first.
 //

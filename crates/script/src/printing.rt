@@ -14,7 +14,7 @@ pub fn told(text: &[u8], n: usize) {
 }
 
 // The runs of equal words that are printed one by one.
-const MOST_RUNS: usize = 40;
+const MOST_RUNS: usize = 400;
 
 // What was printed of a memory: whether it is bytes, the run that is not printed yet, whether the one before it
 // was counted, the runs so far, and the number and the sum of the words beyond the last run that is printed.

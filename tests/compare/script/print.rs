@@ -3,7 +3,7 @@
 use super::fields::Memory;
 
 /// The runs that are printed one by one.
-const MOST_RUNS: usize = 40;
+const MOST_RUNS: usize = 400;
 
 /// The repetitions of a byte from which they are counted and not written out.
 const COUNTED: usize = 4;
