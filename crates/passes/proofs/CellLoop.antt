@@ -1,8 +1,8 @@
 -- The cells of a function, visited one after the other:
 --   count-few                    a function has at most four parameters
 --   cell-inside, cell-few        a cell that a pass comes to is the function's, and its number fits
---   width-some, row-at,
---   row-inside, digit-fits       the cells of a row: their values, where they lie, and the last parameter's value
+--   width-some, row-at, row-last,
+--   row-inside, digit-fits       the cells of a row: their values, those of the last, where they lie, and the last parameter's value
 --   Stepping                     some rows have been visited, and the values are those of the next cell
 --   stepping-start               before the first
 --   stepping-ready, stepping-few,

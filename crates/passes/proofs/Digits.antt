@@ -14,7 +14,7 @@ use native.Mathlib.Nat.{zero-add, add-zero, mul-le-mul, pow-succ', pow-le-pow-ri
 use native.Mathlib.Numerals.{sub-one}
 use native.Mathlib.Omega.{arith}
 use mathlib.Core.Path.{_≡_, refl, sym, ap, _∙_}
-use mathlib.Core.Bool.{Bool, true, false, cond}
+use mathlib.Core.Bool.{Bool, true, false, cond, true≢false}
 use mathlib.Core.List.{List, [], _∷_, _++_}
 use mathlib.Core.Option.{Option, none, some}
 use lib.Dec.{T, ltb}
@@ -30,6 +30,7 @@ use Rattle.semantics.proofs.Digits.{first-values, step-values, before, byLast, 
 use Rattle.syntax.specs.Limits.{mostParams}
 use Rattle.syntax.specs.Kinds.{kindNumber, signatureOf, kindIn}
 use Rattle.rule.specs.Reading.{kindAt, kindsFrom}
+use Rattle.rule.proofs.KindBytes.{length-kinds}
 use Rattle.codes.specs.declared.Lengths.{Lengths}
 use Rattle.codes.specs.{Short, workingOf, radixOf, lowestCode}
 use Rattle.codes.proofs.Bounds.{radix-pos, radix-small, lowest-small}
@@ -171,11 +172,6 @@ digits-snoc : (vs : List Value) (v : Value) (rest : List ℕ) → digitsOf (vs +
 digits-snoc [] v rest = refl
 digits-snoc (v₀ ∷ vs) v rest = ap (λ (l : List ℕ). workingOf (given v₀) ∷ l) (digits-snoc vs v rest)
 
-kinds-length : (k g i c : ℕ) → length (kindsFrom k g i c) ≡ c
-unfolding kindsFrom
-kinds-length k g i zero = refl
-kinds-length k g i (suc c) = ap suc (kinds-length k g (suc i) c)
-
 -- ---- Steps of digits are steps of values
 
 -- digits, with others after them, have stepped to those of values, or none of them could go up
@@ -243,13 +239,10 @@ module _ (t : Traces) (k g : ℕ) (firsts lasts : List ℕ) (count : ℕ)
       let r = last-of t κs (kindAt k g c) vs (rw all at isIn) in
       let same = values-length t κs (r .front) (r .fronts) in
       rw (all, r .both, digits-snoc (r .front) (r .last) rest, next-last t (kindAt k g c) (r .last) κs (r .front) same)
-      (step-one c h (r .front) (r .last) (same ∙ kinds-length k g 0 c) (r .lasts) rest κs
+      (step-one c h (r .front) (r .last) (same ∙ length-kinds k g 0 c) (r .lasts) rest κs
       (λ rest′. digits-step c (r .front) rest′ (omega arith) (r .fronts)))
 
 -- ---- From cell to cell
-
-true-false : true ≡ false → ⊥
-true-false e = let z : _≡_ {A = ℕ} 0 1 = ap (λ (b : Bool). cond b 0 1) e in omega arith
 
 pub lengths-long : (n : Lengths) → LengthsOf (tracesLong n) n
 lengths-long n = record { ram = sym (length-replicate (n .ram) false); guard = sym (length-replicate (n .guard) false) }
@@ -294,7 +287,7 @@ module _ (signature count : ℕ) (n : Lengths) (few : count ≤ mostParams) wher
   ends (suc (suc (suc (suc i)))) h = absurd (omega arith)
 
   values-many : (x : ℕ) → x < configurations signature count n → length (valuesOf signature count n x) ≡ count
-  values-many x h = values-length t (kindsOf signature count) _ (values-in t (kindsOf signature count) x h) ∙ kinds-length k g 0 count
+  values-many x h = values-length t (kindsOf signature count) _ (values-in t (kindsOf signature count) x h) ∙ length-kinds k g 0 count
 
   -- the values of a cell stepped
   at-next : (x : ℕ) (env : List ℕ) → x < configurations signature count n → {stepTo : List ℕ} {more : Bool}
@@ -318,7 +311,7 @@ module _ (signature count : ℕ) (n : Lengths) (few : count ≤ mostParams) wher
           let next = ltb-true _ _ l in
           let same : length (valuesOf signature count n x) ≡ length (valuesOf signature count n (x + 1)) = values-many x h ∙ sym (values-many (x + 1) next) in
           (d .0, λ m. (next, d .1 ∙ ap (λ (j : ℕ). digitsOf (valuesOf signature count n (x + 1)) ++ drop j (blank n)) same))
-      go false l d = (d, λ q. absurd (true-false (sym q ∙ d)))
+      go false l d = (d, λ q. absurd (true≢false (sym q ∙ d)))
 
   -- the working number of a parameter's first value
   first-number : (i : ℕ) → i < 5 → lowestCode (kindIn signature i) ≡ workingOf (given (valueAt (kindAt k g i) 0))

@@ -1,4 +1,4 @@
--- Document 02, request 04: the parameter values of a configuration as digits that step to those of the next.
+-- Document 02, request 04: the parameter values of a configuration as 'running digits', which step to those of the next.
 use Prim.Native.Nat.{_+_}
 use mathlib.Core.Bool.{cond}
 use mathlib.Core.List.{List, [], _∷_}
@@ -20,7 +20,7 @@ carriedTo t κ κs v none =
     (some (valueAt κ (digitOf v + 1) ∷ firstValues κs))
     none
 
--- the last digit up by one, 'with a carry to the left where it has reached its kind's last value'; none after the last configuration
+-- the last digit up by one, with a carry to the left where it has reached its kind's last value; none after the last configuration
 abbrev pub nextValues : Traces → List Kind → List Value → Option (List Value)
 nextValues t [] vs = none
 nextValues t (κ ∷ κs) [] = none
