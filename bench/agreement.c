@@ -4,12 +4,14 @@
 #include "sides.h"
 
 const struct side side[SIDES] = {
-    {"the library", sik_check_program, sik_evaluate, sik_evaluate_two, sik_read_record, sik_check_record},
-    {"plain C", plain_check_program, plain_evaluate, plain_evaluate_two, plain_read_record, plain_check_record},
+    {"the library", sik_check_program, sik_evaluate, sik_evaluate_two, sik_read_record, sik_check_record, sik_follow,
+     sik_follow_two},
+    {"plain C", plain_check_program, plain_evaluate, plain_evaluate_two, plain_read_record, plain_check_record,
+     plain_follow, plain_follow_two},
     {"decoding C", plain_check_program, decoded_evaluate, decoded_evaluate_two, plain_read_record,
-     decoded_check_record},
+     decoded_check_record, decoded_follow, decoded_follow_two},
     {"dividing C", plain_check_program, dividing_evaluate, dividing_evaluate_two, plain_read_record,
-     dividing_check_record},
+     dividing_check_record, NULL, NULL},
 };
 
 /* The tables of the sides, and how many calls were compared. */
@@ -63,24 +65,66 @@ struct trace {
     unsigned n;
 };
 
+/* One side evaluates, on one trace or two. */
+static uint32_t evaluate_by(const struct side *s, struct bytes program, const struct trace *trace, size_t traces,
+                            uint16_t *table, size_t told, uint64_t *answer)
+{
+    const struct bytes ram = trace[0].bytes;
+    if (traces == 1)
+        return s->evaluate(program.at, program.len, ram.at, ram.len, trace[0].n, table, told, answer);
+    return s->evaluate_two(program.at, program.len, ram.at, ram.len, trace[0].n, trace[1].bytes.at,
+                           trace[1].bytes.len, trace[1].n, table, told, answer);
+}
+
 /* On one trace or two, in a table of so many cells, of which the sides are told a part. */
 static uint32_t evaluate(struct tables *t, struct bytes program, const struct trace *trace, size_t traces, size_t lent,
                          size_t told)
 {
-    const struct bytes ram = trace[0].bytes;
     struct given g[SIDES];
     for (unsigned i = 0; i < SIDES; i++) {
         spoil(&g[i]);
         spoil_cells(t, i, lent);
-        if (traces == 1)
-            g[i].number = side[i].evaluate(program.at, program.len, ram.at, ram.len, trace[0].n, t->of[i], told,
-                                           g[i].answer);
-        else
-            g[i].number = side[i].evaluate_two(program.at, program.len, ram.at, ram.len, trace[0].n,
-                                               trace[1].bytes.at, trace[1].bytes.len, trace[1].n, t->of[i], told,
-                                               g[i].answer);
+        g[i].number = evaluate_by(&side[i], program, trace, traces, t->of[i], told, g[i].answer);
     }
     compare(t, "evaluating", g, SIDES, SIK_EVALUATED_SIZE, lent);
+    return g->number;
+}
+
+/* One side follows, on one trace or two. */
+static uint32_t follow_by(const struct side *s, struct bytes program, const struct trace *trace, size_t traces,
+                          uint64_t *answer)
+{
+    const struct bytes ram = trace[0].bytes;
+    if (traces == 1)
+        return s->follow(program.at, program.len, ram.at, ram.len, trace[0].n, answer);
+    return s->follow_two(program.at, program.len, ram.at, ram.len, trace[0].n, trace[1].bytes.at, trace[1].bytes.len,
+                         trace[1].n, answer);
+}
+
+/* Compares what following gave with the library's evaluating in a table of so many cells: the number, unless it is 24
+ * or the table is too short, and the verdict. */
+static void compare_verdict(const struct tables *t, const struct given *followed, struct bytes program,
+                            const struct trace *trace, size_t traces, size_t told)
+{
+    struct given g;
+    spoil(&g);
+    g.number = evaluate_by(&side[LIBRARY], program, trace, traces, t->of[LIBRARY], told, g.answer);
+    if (followed->number == SIK_REFUSED_CALL_ELSEWHERE || g.number == SIK_REFUSED_TABLE_SHORT)
+        return;
+    if (g.number != followed->number || g.answer[SIK_EVALUATED_VERDICT] != followed->answer[SIK_FOLLOWED_VERDICT])
+        fail("following gives another number or verdict than the library's evaluating");
+}
+
+/* On one trace or two; the verdict is that of evaluating in a table of so many cells, where they are enough. */
+static uint32_t follow(struct tables *t, struct bytes program, const struct trace *trace, size_t traces, size_t told)
+{
+    struct given g[FOLLOWERS];
+    for (unsigned i = 0; i < FOLLOWERS; i++) {
+        spoil(&g[i]);
+        g[i].number = follow_by(&side[i], program, trace, traces, g[i].answer);
+    }
+    compare(t, "following", g, FOLLOWERS, SIK_FOLLOWED_SIZE, 0);
+    compare_verdict(t, g, program, trace, traces, told);
     return g->number;
 }
 
@@ -125,17 +169,25 @@ static const uint8_t faults[] = {0x00, 0x01, 0x02, 0x03, 0x04, 0x05, 0x10, 0x11,
 /* Each byte of short bytes is changed to all of them, and of long bytes to some of them, not the same for all bytes. */
 static size_t step(size_t len) { return len < 300 ? 1 : 9; }
 
+/* Checks a program, and follows it where there are traces. */
+static void try_program(struct tables *t, const uint8_t *program, size_t len, const struct trace *trace, size_t traces)
+{
+    check_program(t, program, len);
+    if (traces > 0)
+        follow(t, (struct bytes){program, len}, trace, traces, LISTING_CELLS);
+}
+
 /* Programs with one byte changed, one too many, or the last ones missing. */
-static void program_faults(struct tables *t, const struct bytes *program)
+static void program_faults(struct tables *t, const struct bytes *program, const struct trace *trace, size_t traces)
 {
     uint8_t copy[4096 + 1] = {0};
     memcpy(copy, program->at, program->len);
-    check_program(t, copy, program->len + 1);
+    try_program(t, copy, program->len + 1, trace, traces);
     for (size_t i = 0; i < program->len; i++) {
-        check_program(t, copy, i);
+        try_program(t, copy, i, trace, traces);
         for (size_t j = i % step(program->len); j < sizeof faults; j += step(program->len)) {
             copy[i] = faults[j];
-            check_program(t, copy, program->len);
+            try_program(t, copy, program->len, trace, traces);
         }
         copy[i] = program->at[i];
     }
@@ -249,6 +301,49 @@ static void agree_evaluate(struct tables *t, const struct workload *w)
         fail("a trace is too long, and accepted");
 }
 
+/* A program over two contacts whose main has as many configurations as there may be is followed to the last, and with
+ * one function more it is refused.
+ * main(r, g) = main(r, g); function 1 is True, with no parameters */
+static void follow_limits(struct tables *t)
+{
+    static const uint8_t most[] = {0x81, 2, 3, 2, 3, 0, 0x80, 0x10, 0x11};
+    static const uint8_t more[] = {0x82, 2, 3, 2, 3, 0, 0x80, 0x10, 0x11, 0, 0, 0, 1, 0, 0x01};
+    static const uint8_t zeros[512];
+    const struct trace trace[2] = {{{zeros, sizeof zeros}, 4095}, {{zeros, sizeof zeros}, 4095}};
+    if (follow(t, (struct bytes){most, sizeof most}, trace, 2, CELLS_LENT)
+        || follow(t, (struct bytes){more, sizeof more}, trace, 2, CELLS_LENT) != SIK_REFUSED_TABLE_SHORT)
+        fail("as many configurations as there may be are refused, or more are not");
+}
+
+/* A trace that is one byte too short for n or has more than 4,095 samples is refused, and so is a program over another
+ * number of contacts than there are traces. Programs with faults are followed on a few samples. */
+static void agree_follow(struct tables *t, const struct workload *w)
+{
+    const struct bytes program = w->item[0];
+    const size_t traces = w->items - 1;
+    const unsigned few = w->n < 9 ? w->n : 9;
+    struct trace trace[2] = {{w->item[1], w->n}, {traces == 2 ? w->item[2] : w->item[1], w->n}};
+    struct trace *const last = &trace[traces - 1];
+    uint8_t bytes[2][2];
+    if (follow(t, program, trace, traces, CELLS_LENT)
+        || follow(t, program, trace, 3 - traces, CELLS_LENT) != SIK_REFUSED_FUNCTION_COUNT)
+        fail("a rule that only loops is refused, or one over another number of contacts is not");
+    last->n += 8;
+    if (follow(t, program, trace, traces, CELLS_LENT) != SIK_REFUSED_TRACE_LENGTH)
+        fail("a trace is too short, and followed");
+    last->n = 4096;
+    if (w->n == 4095 && follow(t, program, trace, traces, CELLS_LENT) != SIK_REFUSED_TRACE_LENGTH)
+        fail("a trace is too long, and followed");
+    for (size_t i = 0; i < traces; i++) {
+        memcpy(bytes[i], w->item[1 + i].at, (few + 7) / 8);
+        bytes[i][few / 8] &= (1 << few % 8) - 1; /* no bit above the last sample */
+        trace[i] = (struct trace){{bytes[i], (few + 7) / 8}, few};
+    }
+    program_faults(t, &program, trace, traces);
+    if (traces == 2)
+        follow_limits(t);
+}
+
 static void agree_walk(struct tables *t, const struct bytes *archive)
 {
     size_t left = archive->len;
@@ -292,9 +387,12 @@ uint64_t agree(const struct workload *w, uint16_t *const table[SIDES])
     case EVALUATE:
         agree_evaluate(&t, w);
         if (w->items == 3) {
-            program_faults(&t, &w->item[0]);
+            program_faults(&t, &w->item[0], NULL, 0);
             agree_two(&t, w);
         }
+        break;
+    case FOLLOW:
+        agree_follow(&t, w);
         break;
     case WALK:
         agree_walk(&t, &w->item[0]);
@@ -304,7 +402,7 @@ uint64_t agree(const struct workload *w, uint16_t *const table[SIDES])
         for (size_t i = 0; i < w->items; i++) {
             if (check_program(&t, w->item[i].at, w->item[i].len))
                 fail("a program is refused");
-            program_faults(&t, &w->item[i]);
+            program_faults(&t, &w->item[i], NULL, 0);
         }
         break;
     case READ:
@@ -341,9 +439,11 @@ uint64_t agree_at_random(uint16_t *const table[SIDES])
     uint8_t program[MOST_RANDOM], bytes[2][RANDOM_BYTES];
     for (unsigned i = 0; i < RANDOM_PROGRAMS; i++) {
         const unsigned contacts = 1 + i % 2, other = random_below(&seed, 64) == 0;
-        const struct bytes p = random_program(&seed, contacts, program);
+        const struct bytes p = random_program(&seed, contacts, i / 2 % 2 ? LOOPS : ANY_CALLS, program);
         const struct trace trace[2] = {random_trace(&seed, bytes[0]), random_trace(&seed, bytes[1])};
-        evaluate(&t, p, trace, other ? 3 - contacts : contacts, LISTING_CELLS, LISTING_CELLS);
+        const size_t traces = other ? 3 - contacts : contacts;
+        evaluate(&t, p, trace, traces, LISTING_CELLS, LISTING_CELLS);
+        follow(&t, p, trace, traces, LISTING_CELLS);
     }
-    return t.calls;
+    return RANDOM_PROGRAMS;
 }

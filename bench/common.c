@@ -136,7 +136,23 @@ uint32_t plain_check_program(const uint8_t *program, size_t program_len)
     return check(&r, 0, program, program_len);
 }
 
-/* ---- Evaluating */
+/* The place after the expression at a place of an accepted body, or 0 if a call stands in it where none may. Whether
+ * one may at the place itself is given. */
+static unsigned only_loops(const struct rule *r, unsigned at, int may)
+{
+    const unsigned byte = r->code[at++];
+    unsigned operands = byte == 0x23 ? 3 : byte >= 0x20 && byte <= 0x22 ? 1 : 0;
+    if (byte >= 0x80) {
+        if (!may)
+            return 0;
+        operands = r->function[byte - 0x80].params;
+    }
+    for (unsigned i = 0; i < operands && at; i++)
+        at = only_loops(r, at, may && byte == 0x23 && i > 0);
+    return at;
+}
+
+/* ---- Evaluating and following */
 
 /* Whether a bit above the last of n samples is set. */
 static int padding_set(const uint8_t *trace, unsigned n) { return n % 8 && trace[n / 8] >> n % 8; }
@@ -156,13 +172,9 @@ static uint64_t lay_out(struct rule *r)
     return total;
 }
 
-uint32_t begin(struct rule *r, const uint8_t *program, size_t program_len, const struct traces *t, uint16_t *table,
-               size_t table_len)
+/* Takes the traces into the rule; answers their refusal. */
+static uint32_t take_traces(struct rule *r, const struct traces *t)
 {
-    uint32_t number = check(r, t->contacts, program, program_len);
-    uint64_t cells;
-    if (number)
-        return number;
     for (unsigned c = 0; c < t->contacts; c++)
         if (t->n[c] > MOST_SAMPLES || t->len[c] != (t->n[c] + 7) / 8)
             return SIK_REFUSED_TRACE_LENGTH;
@@ -171,12 +183,43 @@ uint32_t begin(struct rule *r, const uint8_t *program, size_t program_len, const
             return SIK_REFUSED_PADDING_SET;
     for (unsigned c = 0; c < t->contacts; c++)
         r->trace[c] = t->at[c], r->n[c] = t->n[c];
+    return 0;
+}
+
+uint32_t begin(struct rule *r, const uint8_t *program, size_t program_len, const struct traces *t, uint16_t *table,
+               size_t table_len)
+{
+    uint32_t number = check(r, t->contacts, program, program_len);
+    uint64_t cells;
+    if (number == 0)
+        number = take_traces(r, t);
+    if (number)
+        return number;
     r->table = table;
     cells = lay_out(r);
     if (cells > table_len || cells > MOST_CELLS)
         return SIK_REFUSED_TABLE_SHORT;
     r->cells = cells;
     memset(table, 0, cells * sizeof *table);
+    return 0;
+}
+
+uint32_t begin_following(struct rule *r, const uint8_t *program, size_t program_len, const struct traces *t)
+{
+    uint32_t number = check(r, t->contacts, program, program_len);
+    uint64_t cells;
+    for (unsigned g = 0; number == 0 && g < r->functions; g++)
+        if (!only_loops(r, r->function[g].start, 1))
+            number = SIK_REFUSED_CALL_ELSEWHERE;
+    if (number == 0)
+        number = take_traces(r, t);
+    if (number)
+        return number;
+    r->table = NULL;
+    cells = lay_out(r);
+    if (cells > MOST_CELLS)
+        return SIK_REFUSED_TABLE_SHORT;
+    r->cells = cells;
     return 0;
 }
 

@@ -1,4 +1,4 @@
-/* What the baselines share: the check of a program, the frame of an evaluation, the check of a record. */
+/* What the baselines share: the check of a program, the frames of evaluating and following, the check of a record. */
 #ifndef COMMON_H
 #define COMMON_H
 
@@ -47,6 +47,13 @@ static inline unsigned lowest(unsigned kind)
 /* The number of a list with no GUARD. */
 static inline unsigned in_cell(unsigned v) { return v & (GUARD - 1); }
 
+/* Main's parameter values on the whole trace or traces. */
+static inline void whole_traces(const struct rule *r, uint16_t *env)
+{
+    for (unsigned c = 0; c < r->contacts; c++)
+        env[c] = lowest(RAM_LIST + c) + r->n[c];
+}
+
 /* Evaluates on traces, with the answer of plain_evaluate. */
 typedef uint32_t evaluator(const uint8_t *program, size_t program_len, const struct traces *t, uint16_t *table,
                            size_t table_len, uint64_t answer[EVALUATED_SIZE]);
@@ -54,6 +61,10 @@ typedef uint32_t evaluator(const uint8_t *program, size_t program_len, const str
 /* Begins an evaluation: meets its refusals, finds the functions and their cells in the rule, clears the cells. */
 uint32_t begin(struct rule *r, const uint8_t *program, size_t program_len, const struct traces *t, uint16_t *table,
                size_t table_len);
+
+/* Begins following: meets its refusals, and finds the functions in the rule and how many cells they would need. There
+ * is no table. */
+uint32_t begin_following(struct rule *r, const uint8_t *program, size_t program_len, const struct traces *t);
 
 /* Makes passes until one stores nothing, and gives the answer. A pass answers how many outcomes it stored. */
 void make_passes(const struct rule *r, uint32_t (*pass)(const struct rule *), uint64_t answer[EVALUATED_SIZE]);

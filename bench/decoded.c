@@ -1,8 +1,9 @@
 /* The decoding evaluator. Each body is decoded once an evaluation, from its last byte to its first, into one word a
  * node at the place of its byte; common pairs of nodes are one sort. The evaluator is a recursion over these words, and
  * a pass takes the cells of a function by rows, in which only the last parameter differs; the values of the others step
- * from row to row. With DIVIDING defined, a pass divides the number of each cell it visits instead. It runs on accepted
- * programs alone, so it asks for no depth and no bounds.
+ * from row to row. Following is a loop over the words, from body to body. With DIVIDING defined, a pass divides the
+ * number of each cell it visits instead, and nothing follows. It runs on accepted programs alone, so it asks for no
+ * depth and no bounds.
  */
 #include "common.h"
 
@@ -343,6 +344,110 @@ uint32_t NAMED(evaluate_two)(const uint8_t *program, size_t program_len, const u
     const struct traces t = {2, {ram, guard}, {ram_len, guard_len}, {n, m}};
     return evaluate(program, program_len, &t, table, table_len, answer);
 }
+
+#ifndef DIVIDING
+
+/* ---- Following */
+
+static int is_error(unsigned v) { return v == HEAD || v == TAIL; }
+
+/* Takes the arguments of a call into an array: UNDECIDED, or the first error. */
+static inline unsigned take_arguments(const struct decoded *d, const uint16_t *env, uint64_t node, uint16_t *values)
+{
+    uint64_t places = node >> PLACES;
+    for (unsigned i = 0; i < arguments(node); i++, places >>= PLACE) {
+        unsigned value = operand(d, env, d->node[places & 4095]);
+        if (is_error(value))
+            return value;
+        values[i] = value;
+    }
+    return UNDECIDED;
+}
+
+struct followed {
+    uint32_t verdict, calls;
+};
+
+/* Takes main's body on the whole traces, and then that of each function called. The arguments of a call go into the
+ * array that the parameter values are not in; a single one goes into its place. */
+static struct followed follow_calls(const struct decoded *d)
+{
+    const uint32_t most = d->rule.cells;
+    uint16_t values[2][MOST_PARAMS], *env = values[0], *next = values[1], *taken;
+    uint64_t body[MOST_FUNCTIONS], node;
+    uint32_t calls = 0;
+    unsigned v;
+    for (unsigned g = 0; g < d->rule.functions; g++)
+        body[g] = d->node[d->rule.function[g].start];
+    whole_traces(&d->rule, env);
+    for (node = body[0];;) {
+        switch (sort(node)) {
+        case IF: v = eval(d, env, d->node[place(node, 0)]); break;
+        case IF_PARAM: v = env[param(node)]; break;
+        case IF_NULL_PARAM: v = null(env[param(node)]); break;
+        case IF_HD_PARAM: v = head(d, env[param(node)]); break;
+        case CALL_ONE:
+            v = operand(d, env, d->node[place(node, 0)]);
+            if (is_error(v))
+                return (struct followed){v, calls};
+            env[0] = v;
+            if (++calls == most)
+                return (struct followed){SIK_FOREVER, calls};
+            node = body[callee(node)];
+            continue;
+        case CALL: case CALL_GUARD:
+            v = take_arguments(d, env, node, next);
+            if (v != UNDECIDED)
+                return (struct followed){v, calls};
+            taken = next, next = env, env = taken;
+            if (++calls == most)
+                return (struct followed){SIK_FOREVER, calls};
+            node = body[callee(node)];
+            continue;
+        default: return (struct followed){eval(d, env, node), calls};
+        }
+        if (v == TRUE_)
+            node = d->node[place(node, 1)];
+        else if (v == FALSE_)
+            node = d->node[place(node, 2)];
+        else
+            return (struct followed){v, calls};
+    }
+}
+
+static uint32_t follow(const uint8_t *program, size_t program_len, const struct traces *t,
+                       uint64_t answer[SIK_FOLLOWED_SIZE])
+{
+    struct decoded d;
+    struct followed f;
+    uint32_t number = begin_following(&d.rule, program, program_len, t);
+    if (number)
+        return number;
+    for (unsigned g = 0; g < d.rule.functions; g++)
+        decode_function(&d, g);
+    f = follow_calls(&d);
+    answer[SIK_FOLLOWED_VERDICT] = f.verdict;
+    answer[SIK_FOLLOWED_CALLS] = f.calls;
+    return 0;
+}
+
+uint32_t decoded_follow(const uint8_t *program, size_t program_len, const uint8_t *trace, size_t trace_len, uint64_t n,
+                        uint64_t answer[SIK_FOLLOWED_SIZE])
+{
+    const struct traces t = {1, {trace, NULL}, {trace_len, 0}, {n, 0}};
+    return follow(program, program_len, &t, answer);
+}
+
+uint32_t decoded_follow_two(const uint8_t *program, size_t program_len, const uint8_t *ram, size_t ram_len, uint64_t n,
+                            const uint8_t *guard, size_t guard_len, uint64_t m, uint64_t answer[SIK_FOLLOWED_SIZE])
+{
+    const struct traces t = {2, {ram, guard}, {ram_len, guard_len}, {n, m}};
+    return follow(program, program_len, &t, answer);
+}
+
+#endif
+
+/* ---- Checking a record */
 
 uint32_t NAMED(check_record)(const uint8_t *bytes, size_t bytes_len, uint16_t *table, size_t table_len,
                              uint64_t answer[1])

@@ -1,6 +1,7 @@
 /* The plain evaluator is what one would write by hand: a recursion over expression bytes whose outcomes are cell
  * numbers, with first cells, kinds and expression ends worked out once, and a pass in which the parameter values step
- * from cell to cell. It runs on accepted programs alone, so it asks for no depth and no bounds.
+ * from cell to cell. Following is a loop over the bytes, from body to body. It runs on accepted programs alone, so it
+ * asks for no depth and no bounds.
  */
 #include "common.h"
 
@@ -139,6 +140,80 @@ uint32_t plain_evaluate_two(const uint8_t *program, size_t program_len, const ui
     const struct traces t = {2, {ram, guard}, {ram_len, guard_len}, {n, m}};
     return evaluate(program, program_len, &t, table, table_len, answer);
 }
+
+/* ---- Following */
+
+/* Takes the arguments of a call, the first of which stands at a place, into an array: UNDECIDED, or the first error. */
+static uint16_t take_arguments(const struct rule *r, const struct function *f, const uint16_t *env, unsigned at,
+                               uint16_t *values)
+{
+    for (unsigned i = 0; i < f->params; i++) {
+        values[i] = eval(r, env, at);
+        if (values[i] == HEAD || values[i] == TAIL)
+            return values[i];
+        at = r->ends[at];
+    }
+    return UNDECIDED;
+}
+
+/* Takes main's body on the whole traces, and then that of each function called: the verdict. The arguments of a call go
+ * into the array that the parameter values are not in. */
+static uint16_t follow_calls(const struct rule *r, uint64_t *calls)
+{
+    uint16_t values[2][MOST_PARAMS], *env = values[0], *next = values[1], *taken, v;
+    unsigned at = r->function[0].start;
+    whole_traces(r, env);
+    for (*calls = 0; *calls < r->cells;) {
+        const uint8_t byte = r->code[at];
+        if (byte >= 0x80) {
+            const struct function *f = &r->function[byte - 0x80];
+            v = take_arguments(r, f, env, at + 1, next);
+            if (v != UNDECIDED)
+                return v;
+            taken = next, next = env, env = taken;
+            at = f->start;
+            ++*calls;
+        } else if (byte == 0x23) {
+            v = eval(r, env, at + 1);
+            if (v != TRUE_ && v != FALSE_)
+                return v;
+            at = r->ends[at + 1];
+            if (v == FALSE_)
+                at = r->ends[at];
+        } else {
+            return eval(r, env, at);
+        }
+    }
+    return SIK_FOREVER;
+}
+
+static uint32_t follow(const uint8_t *program, size_t program_len, const struct traces *t,
+                       uint64_t answer[SIK_FOLLOWED_SIZE])
+{
+    struct rule r;
+    uint32_t number = begin_following(&r, program, program_len, t);
+    if (number)
+        return number;
+    find_ends(&r);
+    answer[SIK_FOLLOWED_VERDICT] = follow_calls(&r, &answer[SIK_FOLLOWED_CALLS]);
+    return 0;
+}
+
+uint32_t plain_follow(const uint8_t *program, size_t program_len, const uint8_t *trace, size_t trace_len, uint64_t n,
+                      uint64_t answer[SIK_FOLLOWED_SIZE])
+{
+    const struct traces t = {1, {trace, NULL}, {trace_len, 0}, {n, 0}};
+    return follow(program, program_len, &t, answer);
+}
+
+uint32_t plain_follow_two(const uint8_t *program, size_t program_len, const uint8_t *ram, size_t ram_len, uint64_t n,
+                          const uint8_t *guard, size_t guard_len, uint64_t m, uint64_t answer[SIK_FOLLOWED_SIZE])
+{
+    const struct traces t = {2, {ram, guard}, {ram_len, guard_len}, {n, m}};
+    return follow(program, program_len, &t, answer);
+}
+
+/* ---- Checking a record */
 
 uint32_t plain_check_record(const uint8_t *bytes, size_t bytes_len, uint16_t *table, size_t table_len,
                             uint64_t answer[1])

@@ -176,15 +176,16 @@ static void value(struct writer *w, unsigned demand)
 
 /* An expression that is at most so deep: one operand of each node goes on, the others are short. A body of depth 64 has
  * at most 1,009 bytes. */
-static void nested(struct writer *w, unsigned demand, unsigned depth)
+static void nested(struct writer *w, unsigned demand, enum calls calls, unsigned depth)
 {
-    unsigned g = choose(w, w->functions), how = choose(w, 8), may_stop = depth < 8;
+    const enum calls inside = calls == ANY_CALLS ? ANY_CALLS : NO_CALLS;
+    unsigned g = choose(w, w->functions), how = choose(w, 8), may_stop = depth < 8, branches = 0;
     unsigned operands = 3, demands[4] = {BOOL, demand, demand}, on;
     if (depth == 1 || (how == 0 && may_stop)) {
         value(w, demand);
         return;
     }
-    if (how < 4 && allows(demand, kind_of(w, g, 4)) && (w->params[g] || may_stop)) {
+    if (how < 4 && calls != NO_CALLS && allows(demand, kind_of(w, g, 4)) && (w->params[g] || may_stop)) {
         *w->next++ = 0x80 + g;
         operands = w->params[g];
         for (unsigned i = 0; i < operands; i++)
@@ -194,13 +195,15 @@ static void nested(struct writer *w, unsigned demand, unsigned depth)
         operands = 1, demands[0] = demand == BOOL ? EITHER : demand;
     } else {
         *w->next++ = 0x23;
+        branches = 1;
     }
     on = choose(w, 4) % (operands + !operands);
     for (unsigned i = 0; i < operands; i++)
-        nested(w, demands[i], i == on ? depth - 1 : depth > 2 ? 1 + choose(w, 2) : 1);
+        nested(w, demands[i], branches && i > 0 ? calls : inside,
+               i == on ? depth - 1 : depth > 2 ? 1 + choose(w, 2) : 1);
 }
 
-struct bytes random_program(uint32_t *seed, unsigned contacts, uint8_t out[MOST_RANDOM])
+struct bytes random_program(uint32_t *seed, unsigned contacts, enum calls calls, uint8_t out[MOST_RANDOM])
 {
     const size_t head = contacts == 2 ? 5 : 4;
     struct writer w = {out + 1, *seed, 0, 0, {1}, {1}, {0}};
@@ -215,7 +218,7 @@ struct bytes random_program(uint32_t *seed, unsigned contacts, uint8_t out[MOST_
     for (; w.own < w.functions; w.own++) {
         uint8_t *start = w.next, *end;
         w.next += head;
-        nested(&w, kind_of(&w, w.own, 4), choose(&w, 4) ? 1 + choose(&w, 8) : 64);
+        nested(&w, kind_of(&w, w.own, 4), calls, choose(&w, 4) ? 1 + choose(&w, 8) : 64);
         end = w.next;
         w.next = start;
         header(&w, w.own, end - start - head);

@@ -27,8 +27,11 @@ struct bytes any_program(unsigned size, unsigned functions);
 
 enum { MOST_RANDOM = 8192 };
 
+/* Where calls stand in a program: nowhere, where those of a program that only loops may, or anywhere. */
+enum calls { NO_CALLS, LOOPS, ANY_CALLS };
+
 /* A random program over one contact or two, of up to 6 functions, some of whose bodies are up to 64 nodes deep. It is
  * accepted unless it is too long. */
-struct bytes random_program(uint32_t *seed, unsigned contacts, uint8_t out[MOST_RANDOM]);
+struct bytes random_program(uint32_t *seed, unsigned contacts, enum calls calls, uint8_t out[MOST_RANDOM]);
 
 #endif

@@ -54,10 +54,21 @@ static const uint8_t lists_and_bools[] = {2, 1, 1, 7, 0, 0x81, 0x00, 0x21, 0x21,
                                           4, 10, 19, 0, 0x23, 0x10, 0x01, 0x23, 0x12, 0x00, 0x23, 0x22, 0x11, 0x00,
                                           0x81, 0x20, 0x11, 0x21, 0x11, 0x20, 0x13, 0x21, 0x13};
 
+/* Counts b down for each a that is counted down: on n samples n * (n + 1) / 2 + n + 1 calls.
+ * main(l) = g(l, l); g(a, b) = if null a then True else if null b then g(tl a, tl a) else g(a, tl b) */
+static const uint8_t countdown[] = {2, 1, 1, 3, 0, 0x81, 0x10, 0x10, 2, 3, 16, 0, 0x23, 0x22, 0x10, 0x01, 0x23, 0x22,
+                                    0x11, 0x81, 0x21, 0x10, 0x21, 0x10, 0x81, 0x10, 0x21, 0x11};
+
+/* Forever where there is a sample: as many calls as main and g have configurations, (n + 1) * (n + 2).
+ * main(l) = g(l, l); g(a, b) = if null a then True else g(b, a) */
+static const uint8_t in_turn[] = {2, 1, 1, 3, 0, 0x81, 0x10, 0x10, 2, 3, 7, 0, 0x23, 0x22, 0x10, 0x01, 0x81, 0x11,
+                                  0x10};
+
 /* ---- Traces, records, archives */
 
 /* Of 4,095 samples each. */
 static uint8_t ones[512], mixed[512];
+static const uint8_t zeros[512];
 
 static void fill_traces(void)
 {
@@ -152,6 +163,13 @@ static struct workload evaluate_two(const char *name, struct bytes program, cons
     return (struct workload){name, EVALUATE, PER_VISIT, n, 3, {program, {ram, len}, {guard, len}}};
 }
 
+/* A workload that evaluates, followed instead. */
+static struct workload followed(struct workload w)
+{
+    w.sort = FOLLOW, w.unit = PER_CALL_MADE;
+    return w;
+}
+
 static struct workload walk(const char *name, struct bytes archive)
 {
     return (struct workload){name, WALK, PER_BYTE, 0, 1, {archive}};
@@ -159,7 +177,7 @@ static struct workload walk(const char *name, struct bytes archive)
 
 void build_workloads(struct workload workload[WORKLOADS], uint16_t *table)
 {
-    static const uint8_t trace_a[] = {5};
+    static const uint8_t trace_a[] = {5}, trace_d[] = {7};
     struct workload check = {"check programs", CHECK, PER_BYTE, 0, 0, {{0, 0}}};
     struct workload read = {"read records", READ, PER_BYTE, 0, 0, {{0, 0}}};
     struct bytes body = long_body();
@@ -200,4 +218,12 @@ void build_workloads(struct workload workload[WORKLOADS], uint16_t *table)
     workload[10] = walk("walk and check an archive of small records", archive(small, COUNT(small), table));
     workload[11] = check;
     workload[12] = read;
+    workload[13] = followed(workload[0]);
+    workload[14] = followed(workload[2]);
+    workload[15] = followed(evaluate("a countdown in a countdown, n = 2,000", BYTES(countdown), ones, 2000));
+    workload[16] = followed(evaluate("two lists in turn, forever, n = 2,000", BYTES(in_turn), ones, 2000));
+    workload[17] = followed(evaluate_two("two contacts together, n = m = 2,000", BYTES(press), mixed, ones, 2000));
+    workload[18] = followed(evaluate("two lists and two Bools, n = 1,000", BYTES(lists_and_bools), zeros, 1000));
+    workload[19] = followed(evaluate("row D, n = 3", BYTES(row_d), trace_d, 3));
+    workload[19].unit = PER_CALL;
 }

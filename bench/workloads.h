@@ -12,13 +12,15 @@ enum {
 
 enum sort {
     EVALUATE, /* item 0 is a program, item 1 a trace of n samples; over two contacts item 2 is the guard's, of n too */
+    FOLLOW,   /* the same, of a program that only loops */
     WALK,     /* item 0 is an archive: each record is read and checked, from the last */
     CHECK,    /* the items are programs */
     READ      /* the items are records, each by itself */
 };
 
-/* What its time is divided by: the undecided cells that passes visit, all cells that they come to, bytes or calls. */
-enum unit { PER_VISIT, PER_CELL, PER_BYTE, PER_CALL };
+/* What its time is divided by: the undecided cells that passes visit, all cells that they come to, bytes, calls of the
+ * side, or the calls that following makes. */
+enum unit { PER_VISIT, PER_CELL, PER_BYTE, PER_CALL, PER_CALL_MADE };
 
 struct workload {
     const char *name;
@@ -29,9 +31,10 @@ struct workload {
     struct bytes item[MOST_ITEMS];
 };
 
-enum { WORKLOADS = 13 };
+enum { WORKLOADS = 20 };
 
-/* Fills in the workloads. They are the same in every run. The table is used to write records. */
+/* Fills in the workloads, with those that follow at the end. They are the same in every run. The table is used to write
+ * records. */
 void build_workloads(struct workload workload[WORKLOADS], uint16_t *table);
 
 #endif

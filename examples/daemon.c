@@ -2,9 +2,10 @@
  *
  * It watches a press with two contacts: a sample of the ram is 1 while the ram moves, one of the guard is 1 while the
  * guard is closed. Samples go into a ring for each contact, and the traces are taken from the rings. Each rule is
- * checked, evaluated on the ram's trace or on both, as it is over one contact or two, and recorded, and the record is
- * appended to an archive. Then the archive is read back from its file and walked from its end, and each record is
- * checked. Every refusal is told in words with its number.
+ * checked; followed, which needs no table and decides it if it only loops; evaluated with the table; and recorded. It
+ * is taken on the ram's trace or on both, as it is over one contact or two. The record is appended to an archive. Then
+ * the archive is read back from its file and walked from its end, and each record is checked. Every refusal is told in
+ * words with its number.
  *
  * Build:  make lib && cc -std=c99 -Ibuild/include examples/daemon.c -Lbuild/lib -lsikafondza -o daemon
  * Run:    ./daemon [-i] [-a ARCHIVE] [RULE ..]          (`make example` builds it and runs it with no arguments)
@@ -83,6 +84,7 @@ static const char *const REFUSALS[] = {
     [SIK_REFUSED_TABLE_SHORT] = "the table has too few cells for the rule",
     [SIK_REFUSED_OUTPUT_SHORT] = "the output is too short",
     [SIK_REFUSED_PADDING_SET] = "a bit above the last sample is set",
+    [SIK_REFUSED_CALL_ELSEWHERE] = "it does not only loop: a call stands in a condition, an operand or an argument",
     [SIK_REFUSED_OPERAND_KIND] = "a condition, or what hd, tl or null is applied to, has the wrong kind",
     [SIK_REFUSED_ARGUMENT_KIND] = "an argument of a call has another kind than the function's parameter"};
 
@@ -190,7 +192,16 @@ static int append(const uint8_t *bytes, size_t len, FILE *archive)
 
 static size_t trace_len(const struct contact *c) { return (size_t)(c->samples + 7) / 8; }
 
-/* Evaluates the rule in program on the ram's trace, or on both. */
+/* Follows the rule in program on the ram's trace, or on both. */
+static uint32_t follow(size_t len, int two, uint64_t answer[SIK_FOLLOWED_SIZE])
+{
+    if (two)
+        return sik_follow_two(program, len, ram.trace, trace_len(&ram), ram.samples, guard.trace, trace_len(&guard),
+                              guard.samples, answer);
+    return sik_follow(program, len, ram.trace, trace_len(&ram), ram.samples, answer);
+}
+
+/* Evaluates it there. */
 static uint32_t evaluate(size_t len, int two, uint64_t answer[SIK_EVALUATED_SIZE])
 {
     if (two)
@@ -208,16 +219,20 @@ static uint32_t write_record(size_t len, int two, uint64_t answer[SIK_WRITTEN_SI
     return sik_write_record(program, len, ram.trace, trace_len(&ram), ram.samples, table, CELLS, record, RECORD, answer);
 }
 
-/* Checks, evaluates and records a rule. A refused rule leaves no record, and is no failure of the daemon. */
+/* Checks, follows, evaluates and records a rule. One that does not only loop cannot be followed, and is recorded all
+ * the same. Any other refusal leaves no record. None is a failure of the daemon. */
 static int run_rule(const char *name, const char *hex, FILE *archive)
 {
     const size_t len = (size_t)read_hex(hex);
     const int two = len > 0 && program[0] >= 0x80; /* over two contacts, by the first byte */
-    uint64_t evaluated[SIK_EVALUATED_SIZE], written[SIK_WRITTEN_SIZE];
+    uint64_t followed[SIK_FOLLOWED_SIZE], evaluated[SIK_EVALUATED_SIZE], written[SIK_WRITTEN_SIZE];
     printf("rule '%s': ", name);
     if (refused(sik_check_program(program, len)))
         return 0;
-    printf("accepted, bytes %zu, contacts %d\n  evaluated: ", len, two ? 2 : 1);
+    printf("accepted, bytes %zu, contacts %d\n  followed: ", len, two ? 2 : 1);
+    if (!refused(follow(len, two, followed)))
+        printf("%s, calls %" PRIu64 "\n", VERDICTS[followed[SIK_FOLLOWED_VERDICT]], followed[SIK_FOLLOWED_CALLS]);
+    printf("  evaluated: ");
     if (refused(evaluate(len, two, evaluated)))
         return 0;
     printf("%s, passes %" PRIu64 "\n  recorded: ", VERDICTS[evaluated[SIK_EVALUATED_VERDICT]],

@@ -7,8 +7,8 @@
  * lent to the same call. The functions keep no state of their own, so calls on different memory may run at the same
  * time. A call takes at most about 50 KB of stack (measured on x86-64).
  *
- * An array for a state or an answer has its places named by an enum (SIK_RING_.., SIK_EVALUATED_.., SIK_WRITTEN_..,
- * SIK_PARTS_.., SIK_CHECKED_..), which ends in its number of places, .._SIZE.
+ * An array for a state or an answer has its places named by an enum (SIK_RING_.., SIK_EVALUATED_.., SIK_FOLLOWED_..,
+ * SIK_WRITTEN_.., SIK_PARTS_.., SIK_CHECKED_..), which ends in its number of places, .._SIZE.
  *
  * Link with libsikafondza.a (`make lib` puts it with this file under build/).
  */
@@ -18,10 +18,10 @@
 #include <stddef.h>
 #include <stdint.h>
 
-/* The version of the library, as numbers and as a text such as "3.1.1". */
+/* The version of the library, as numbers and as a text such as "3.2.0". */
 #define SIK_VERSION_MAJOR 3
-#define SIK_VERSION_MINOR 1
-#define SIK_VERSION_PATCH 1
+#define SIK_VERSION_MINOR 2
+#define SIK_VERSION_PATCH 0
 #define SIK_VERSION \
     SIK_VERSION_TEXT(SIK_VERSION_MAJOR) "." SIK_VERSION_TEXT(SIK_VERSION_MINOR) "." SIK_VERSION_TEXT(SIK_VERSION_PATCH)
 #define SIK_VERSION_TEXT(macro) SIK_VERSION_TEXT_OF(macro)
@@ -41,7 +41,8 @@ enum {
 };
 
 /* Refusals. The number answered is that of the first that applies, among those that the function can meet: in the order
- * of this list, but 23 directly after 3 of a record, and directly after 20 of a lent trace, and 25 and 26 in the place of 16.
+ * of this list, but 23 directly after 3 of a record, and directly after 20 of a lent trace, 24 directly after 17, and 25 and
+ * 26 in the place of 16.
  * The list of refusals above each function has its order. Of a program with several faults, in 7 to 9 the first function at
  * fault decides; in 12 to 17, 25 and 26 the first function, and in it the first byte, whatever the numbers of the later ones.
  * So the program 02 01 01 01 00 10 00 00 01 00 24 is refused with 16, for the list in the body of function 0, and not with
@@ -83,10 +84,14 @@ enum {
     SIK_REFUSED_RING_STATE = 19,             /* the ring's next place is not below its length, or its count is above it */
     SIK_REFUSED_TRACE_LENGTH = 20,           /* n is above 4,095, or the trace has not n / 8 rounded up bytes; of two
                                                 traces either */
-    SIK_REFUSED_TABLE_SHORT = 21,            /* the cells needed exceed the lent table or 16,777,216 */
+    SIK_REFUSED_TABLE_SHORT = 21,            /* the cells needed exceed the lent table or 16,777,216; in following, which
+                                                needs no cells, there are more than 16,777,216 configurations */
     SIK_REFUSED_OUTPUT_SHORT = 22,           /* the output is shorter than what is to be written */
     SIK_REFUSED_PADDING_SET = 23,            /* a bit above the last sample is set, in the last byte of a trace, of two
                                                 traces of either; where n is a multiple of 8 there is none */
+    SIK_REFUSED_CALL_ELSEWHERE = 24,         /* in following, the rule does not only loop: in one of its functions a call
+                                                stands elsewhere than as the whole body, or as a branch of an if that
+                                                itself is in such a place */
     SIK_REFUSED_OPERAND_KIND = 25,           /* a condition, or what hd, tl or null is applied to, has the wrong kind */
     SIK_REFUSED_ARGUMENT_KIND = 26           /* an argument of a call has another kind than the function's parameter */
 };
@@ -155,6 +160,38 @@ uint32_t sik_evaluate(const uint8_t *program, size_t program_len, const uint8_t 
 uint32_t sik_evaluate_two(const uint8_t *program, size_t program_len, const uint8_t *ram, size_t ram_len, uint64_t n,
                           const uint8_t *guard, size_t guard_len, uint64_t m, uint16_t *table, size_t table_len,
                           uint64_t answer[SIK_EVALUATED_SIZE]);
+
+/* What following answers. */
+enum {
+    SIK_FOLLOWED_VERDICT = 0, /* the verdict (SIK_FOREVER to SIK_TAIL) */
+    SIK_FOLLOWED_CALLS = 1,   /* how many calls were made */
+    SIK_FOLLOWED_SIZE = 2
+};
+
+/* Decides a rule program over one contact that only loops on a packed trace of n samples, with no table: by following the
+ * calls from main on the whole trace. A rule only loops if each call in its functions, in those that main never comes to as
+ * well, is the whole body, or a branch of an if that itself is in such a place; so none stands in a condition, an operand
+ * or an argument. The verdict is the one that sik_evaluate answers. The function writes nothing but answer.
+ *   program, trace, n   as for sik_evaluate
+ *   answer              becomes the verdict and the calls made
+ * Taking main at first is no call. A call is made, and counted, once all its arguments have values; an error in one of them
+ * is the verdict. SIK_FOREVER is answered when as many calls were made as the program's functions have configurations,
+ * which is the number of cells that sik_evaluate needs; the body of the last callee is not taken. So SIK_FOREVER comes
+ * with exactly that many calls, and any other verdict with fewer.
+ * There is no pass count here: a record, which has one, is written by sik_write_record, with a table.
+ * Refusals: 5 to 17 (25 and 26 with 16), 24, 20, 23, 21, which is met by more than 16,777,216 configurations alone.
+ */
+uint32_t sik_follow(const uint8_t *program, size_t program_len, const uint8_t *trace, size_t trace_len, uint64_t n,
+                    uint64_t answer[SIK_FOLLOWED_SIZE]);
+
+/* Follows as sik_follow does, a rule program over two contacts that only loops, from main on both whole traces, of n samples
+ * of the ram and of m samples of the guard. The verdict is the one that sik_evaluate_two answers.
+ *   program, ram, n, guard, m   as for sik_evaluate_two
+ *   answer                      becomes the verdict and the calls made
+ * Refusals: 5 to 17 (25 and 26 with 16), 24, 20, 23, 21 as for sik_follow; 20 of either trace goes before 23 of either.
+ */
+uint32_t sik_follow_two(const uint8_t *program, size_t program_len, const uint8_t *ram, size_t ram_len, uint64_t n,
+                        const uint8_t *guard, size_t guard_len, uint64_t m, uint64_t answer[SIK_FOLLOWED_SIZE]);
 
 /* What writing a record answers. */
 enum {

@@ -1,8 +1,8 @@
 /* Checks that the header is clean in C99 and in C++: it may be included twice, its constants have the values of
  * document 01, its functions have the types written here and are found when linking. Each function is called
  * with no elements, and so with null pointers, which it must refuse. Then a record over one contact and one over two are
- * written, read and checked, one of format 1 is read and checked, and each answer is looked for at the place that the
- * header names.
+ * written, read and checked, one of format 1 is read and checked, rules that only loop are followed, and each answer is
+ * looked for at the place that the header names.
  *
  *   cc -std=c99 -pedantic-errors -Wall -Wextra -Werror -Iinclude tests/header.c libsikafondza.a
  *   c++ -x c++ -pedantic-errors -Wall -Wextra -Werror -Iinclude tests/header.c -x none libsikafondza.a
@@ -49,11 +49,15 @@ IS(SIK_REFUSED_TRACE_LENGTH, 20);
 IS(SIK_REFUSED_TABLE_SHORT, 21);
 IS(SIK_REFUSED_OUTPUT_SHORT, 22);
 IS(SIK_REFUSED_PADDING_SET, 23);
+IS(SIK_REFUSED_CALL_ELSEWHERE, 24);
 IS(SIK_REFUSED_OPERAND_KIND, 25);
 IS(SIK_REFUSED_ARGUMENT_KIND, 26);
 
 IS(SIK_RING_SIZE, 2);
 IS(SIK_EVALUATED_SIZE, 2);
+IS(SIK_FOLLOWED_VERDICT, 0);
+IS(SIK_FOLLOWED_CALLS, 1);
+IS(SIK_FOLLOWED_SIZE, 2);
 IS(SIK_WRITTEN_SIZE, 3);
 IS(SIK_PARTS_GUARD_START, 11);
 IS(SIK_PARTS_GUARD_LENGTH, 12);
@@ -70,6 +74,9 @@ static uint32_t (*const evaluate)(const uint8_t *, size_t, const uint8_t *, size
                                   uint64_t *) = &sik_evaluate;
 static uint32_t (*const evaluate_two)(const uint8_t *, size_t, const uint8_t *, size_t, uint64_t, const uint8_t *, size_t,
                                       uint64_t, uint16_t *, size_t, uint64_t *) = &sik_evaluate_two;
+static uint32_t (*const follow)(const uint8_t *, size_t, const uint8_t *, size_t, uint64_t, uint64_t *) = &sik_follow;
+static uint32_t (*const follow_two)(const uint8_t *, size_t, const uint8_t *, size_t, uint64_t, const uint8_t *, size_t,
+                                    uint64_t, uint64_t *) = &sik_follow_two;
 static uint32_t (*const write_record)(const uint8_t *, size_t, const uint8_t *, size_t, uint64_t, uint16_t *, size_t,
                                       uint8_t *, size_t, uint64_t *) = &sik_write_record;
 static uint32_t (*const write_record_two)(const uint8_t *, size_t, const uint8_t *, size_t, uint64_t, const uint8_t *,
@@ -88,6 +95,8 @@ static int wrong_refusals(void)
     wrong += check_program(NULL, 0) != SIK_REFUSED_PROGRAM_LENGTH;
     wrong += evaluate(NULL, 0, NULL, 0, 0, NULL, 0, numbers) != SIK_REFUSED_PROGRAM_LENGTH;
     wrong += evaluate_two(NULL, 0, NULL, 0, 0, NULL, 0, 0, NULL, 0, numbers) != SIK_REFUSED_PROGRAM_LENGTH;
+    wrong += follow(NULL, 0, NULL, 0, 0, numbers) != SIK_REFUSED_PROGRAM_LENGTH;
+    wrong += follow_two(NULL, 0, NULL, 0, 0, NULL, 0, 0, numbers) != SIK_REFUSED_PROGRAM_LENGTH;
     wrong += write_record(NULL, 0, NULL, 0, 0, NULL, 0, NULL, 0, numbers) != SIK_REFUSED_PROGRAM_LENGTH;
     wrong += write_record_two(NULL, 0, NULL, 0, 0, NULL, 0, 0, NULL, 0, NULL, 0, numbers) != SIK_REFUSED_PROGRAM_LENGTH;
     wrong += read_record(NULL, 0, numbers) != SIK_REFUSED_TRAILER_MISSING;
@@ -168,6 +177,62 @@ static int wrong_two(void)
     return wrong;
 }
 
+/* Rows B, D, E and F of document 01: forever with as many calls as configurations, 3 calls to yes on 1 1 1 and 1 to no on
+ * 1 0 1, 1 call to yes, and a call in an argument; and a call in a condition of a function that main never comes to. A
+ * refusal leaves the answer as it was. */
+static int wrong_follow(void)
+{
+    const uint8_t row_b[] = {0x01, 0x01, 0x01, 0x02, 0x00, 0x80, 0x10};
+    const uint8_t row_d[] = {0x01, 0x01, 0x01, 0x0B, 0x00, 0x23, 0x22, 0x10, 0x01, 0x23, 0x20, 0x10, 0x80, 0x21, 0x10, 0x00};
+    const uint8_t row_e[] = {0x02, 0x01, 0x01, 0x01, 0x00, 0x81, 0x00, 0x00, 0x01, 0x00, 0x01};
+    const uint8_t row_f[] = {0x02, 0x01, 0x01, 0x03, 0x00, 0x81, 0x80, 0x10, 0x01, 0x00, 0x01, 0x00, 0x01};
+    const uint8_t apart[] = {0x02, 0x01, 0x01, 0x01, 0x00, 0x01, 0x00, 0x00, 0x04, 0x00, 0x23, 0x81, 0x00, 0x01};
+    const uint8_t ones[] = {0x07}, mixed[] = {0x05}, padded[] = {0x0D};
+    uint64_t followed[SIK_FOLLOWED_SIZE];
+    int wrong = 0;
+    wrong += follow(row_b, sizeof row_b, mixed, 1, 3, followed) != 0;
+    wrong += followed[SIK_FOLLOWED_VERDICT] != SIK_FOREVER || followed[SIK_FOLLOWED_CALLS] != 4;
+    wrong += follow(row_d, sizeof row_d, ones, 1, 3, followed) != 0;
+    wrong += followed[SIK_FOLLOWED_VERDICT] != SIK_YES || followed[SIK_FOLLOWED_CALLS] != 3;
+    wrong += follow(row_d, sizeof row_d, mixed, 1, 3, followed) != 0;
+    wrong += followed[SIK_FOLLOWED_VERDICT] != SIK_NO || followed[SIK_FOLLOWED_CALLS] != 1;
+    wrong += follow(row_e, sizeof row_e, NULL, 0, 0, followed) != 0;
+    wrong += followed[SIK_FOLLOWED_VERDICT] != SIK_YES || followed[SIK_FOLLOWED_CALLS] != 1;
+    followed[SIK_FOLLOWED_VERDICT] = followed[SIK_FOLLOWED_CALLS] = 77;
+    wrong += follow(row_f, sizeof row_f, padded, 1, 4096, followed) != SIK_REFUSED_CALL_ELSEWHERE;
+    wrong += follow(apart, sizeof apart, padded, 1, 3, followed) != SIK_REFUSED_CALL_ELSEWHERE;
+    wrong += follow(row_d, sizeof row_d, padded, 1, 4096, followed) != SIK_REFUSED_TRACE_LENGTH;
+    wrong += follow(row_d, sizeof row_d, padded, 1, 3, followed) != SIK_REFUSED_PADDING_SET;
+    wrong += follow_two(row_d, sizeof row_d, ones, 1, 3, ones, 1, 3, followed) != SIK_REFUSED_FUNCTION_COUNT;
+    wrong += followed[SIK_FOLLOWED_VERDICT] != 77 || followed[SIK_FOLLOWED_CALLS] != 77;
+    return wrong;
+}
+
+/* 'If null of parameter 0 then hd of parameter 1, else main on the tails of both' over two contacts, on 1 0 1 of the ram: 3
+ * calls to yes on four samples of the guard, whose newest is 1; on three, head of the empty list after as many; on two, the
+ * third call is not made, since its second argument is tail of the empty list. On traces of 4,095 samples main has 16,777,216
+ * configurations, and no function can be added. */
+static int wrong_follow_two(void)
+{
+    const uint8_t program[] = {0x81, 0x02, 0x03, 0x02, 0x0A, 0x00, 0x23, 0x22, 0x10, 0x20, 0x11, 0x80, 0x21, 0x10, 0x21, 0x11};
+    const uint8_t added[] = {0x82, 0x02, 0x03, 0x02, 0x01, 0x00, 0x01, 0x00, 0x00, 0x00, 0x01, 0x00, 0x01};
+    const uint8_t ram[] = {0x05}, guard[] = {0x08}, none[] = {0x00};
+    static const uint8_t zeros[512] = {0};
+    uint64_t followed[SIK_FOLLOWED_SIZE];
+    int wrong = 0;
+    wrong += follow_two(program, sizeof program, ram, 1, 3, guard, 1, 4, followed) != 0;
+    wrong += followed[SIK_FOLLOWED_VERDICT] != SIK_YES || followed[SIK_FOLLOWED_CALLS] != 3;
+    wrong += follow_two(program, sizeof program, ram, 1, 3, none, 1, 3, followed) != 0;
+    wrong += followed[SIK_FOLLOWED_VERDICT] != SIK_HEAD || followed[SIK_FOLLOWED_CALLS] != 3;
+    wrong += follow_two(program, sizeof program, ram, 1, 3, none, 1, 2, followed) != 0;
+    wrong += followed[SIK_FOLLOWED_VERDICT] != SIK_TAIL || followed[SIK_FOLLOWED_CALLS] != 2;
+    wrong += follow(program, sizeof program, ram, 1, 3, followed) != SIK_REFUSED_FUNCTION_COUNT;
+    wrong += follow_two(program, sizeof program, zeros, 512, 4095, zeros, 512, 4095, followed) != 0;
+    wrong += followed[SIK_FOLLOWED_VERDICT] != SIK_HEAD || followed[SIK_FOLLOWED_CALLS] != 4095;
+    wrong += follow_two(added, sizeof added, zeros, 512, 4095, zeros, 512, 4095, followed) != SIK_REFUSED_TABLE_SHORT;
+    return wrong;
+}
+
 /* The archive of document 01, a record of format 1 whose label is zeros. */
 static int wrong_label(void)
 {
@@ -192,5 +257,6 @@ static int wrong_version(void)
 
 int main(void)
 {
-    return wrong_refusals() + wrong_order() + wrong_places() + wrong_two() + wrong_label() + wrong_version();
+    return wrong_refusals() + wrong_order() + wrong_places() + wrong_two() + wrong_follow() + wrong_follow_two() +
+           wrong_label() + wrong_version();
 }

@@ -4,6 +4,7 @@ mod bodies;
 mod digits;
 mod evaluation;
 mod executable;
+mod following;
 mod kinds;
 mod limits;
 mod listing;
@@ -44,10 +45,19 @@ const SHOWN: usize = 256;
 /// A kind of case: its name and what runs it in a round.
 pub type Kind = (&'static str, fn(&mut Bench) -> Compared);
 
-/// The kinds that together meet all of the language, and every mix of parameters.
-pub const BODIES: [&str; 6] = ["pairs", "contacts", "wide", "longest", "kinds", "digits"];
+/// The kinds that together meet all of the language, every mix of parameters, and all that following meets.
+pub const BODIES: [&str; 8] = [
+    "pairs",
+    "contacts",
+    "wide",
+    "longest",
+    "kinds",
+    "digits",
+    "follow",
+    "elsewhere",
+];
 
-pub const KINDS: [Kind; 17] = [
+pub const KINDS: [Kind; 19] = [
     ("papers", papers::run),
     ("check", program::run),
     ("evaluate", evaluation::run),
@@ -65,12 +75,19 @@ pub const KINDS: [Kind; 17] = [
     ("passes", passes::run),
     ("kinds", kinds::run),
     ("digits", digits::run),
+    ("follow", following::run),
+    ("elsewhere", following::run_elsewhere),
 ];
 
 /// After so many rounds the kinds of BODIES tried all they have.
 pub fn rounds_for_all() -> u64 {
-    let others = kinds::rounds_for_all().max(digits::rounds_for_all());
-    bodies::rounds_for_all().max(others)
+    let rounds = [
+        bodies::rounds_for_all(),
+        kinds::rounds_for_all(),
+        digits::rounds_for_all(),
+        following::rounds_for_all(),
+    ];
+    rounds.into_iter().max().unwrap_or(0)
 }
 
 /// With exact buffers, which are for slow runs, some kinds are run so many times as seldom.

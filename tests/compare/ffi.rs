@@ -64,6 +64,25 @@ extern "C" {
         out_len: usize,
         answer: *mut u64,
     ) -> u32;
+    fn sik_follow(
+        program: *const u8,
+        program_len: usize,
+        trace: *const u8,
+        trace_len: usize,
+        n: u64,
+        answer: *mut u64,
+    ) -> u32;
+    fn sik_follow_two(
+        program: *const u8,
+        program_len: usize,
+        ram: *const u8,
+        ram_len: usize,
+        n: u64,
+        guard: *const u8,
+        guard_len: usize,
+        m: u64,
+        answer: *mut u64,
+    ) -> u32;
     fn sik_read_record(bytes: *const u8, bytes_len: usize, parts: *mut u64) -> u32;
     fn sik_check_record(
         bytes: *const u8,
@@ -146,6 +165,37 @@ pub fn evaluate(
             *m,
             table.pointer_mut(),
             length,
+            answer.pointer_mut(),
+        )
+    }
+}
+
+/// Follows the calls on the traces of one contact or of two; the answer has 2 words.
+pub fn follow(program: &Lent<u8>, traces: &PerContact<LentTrace>, answer: &mut Lent<u64>) -> u32 {
+    assert_eq!(answer.len(), 2);
+    let (ram, n) = &traces.ram;
+    let Some((guard, m)) = &traces.guard else {
+        return unsafe {
+            sik_follow(
+                program.pointer(),
+                program.len(),
+                ram.pointer(),
+                ram.len(),
+                *n,
+                answer.pointer_mut(),
+            )
+        };
+    };
+    unsafe {
+        sik_follow_two(
+            program.pointer(),
+            program.len(),
+            ram.pointer(),
+            ram.len(),
+            *n,
+            guard.pointer(),
+            guard.len(),
+            *m,
             answer.pointer_mut(),
         )
     }

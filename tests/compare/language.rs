@@ -1,5 +1,6 @@
 //! The language in pairs: the places where a node may stand, and the sorts of node that may stand there. Programs over
-//! two contacts have more of both than programs over one. And the kind faults: nodes of other kinds in such places.
+//! two contacts have more of both than programs over one. And the kind faults: nodes of other kinds in such places; and
+//! the places where a call does not only loop.
 
 use super::oracle::program::{Contact, Contacts, Demand, Fault, Kind};
 
@@ -503,4 +504,30 @@ pub fn nestings(contacts: Contacts) -> Vec<Nesting> {
         nestings.extend(all.filter(|nesting| !nesting.sorts(contacts).is_empty()));
     }
     nestings
+}
+
+/// A call that does not only loop: it stands in an operand, a condition or an argument, or is a branch of an if there.
+#[derive(Clone, Copy, PartialEq, Eq, Debug)]
+pub struct Elsewhere {
+    pub place: Place,
+    pub branch: Option<Place>,
+}
+
+impl Elsewhere {
+    pub fn name(&self) -> String {
+        let places = self.branch.into_iter().chain([self.place]);
+        let places = places.map(|place| format!(" in {}", place.name()));
+        format!("a call{}", places.collect::<String>())
+    }
+}
+
+/// Every place where a call does not only loop.
+pub fn elsewhere(contacts: Contacts) -> Vec<Elsewhere> {
+    let mut places = Place::all(contacts);
+    places.retain(|place| !place.is_body() && place.fault().is_some());
+    let in_place = |place: Place| {
+        let branches = branches(place.demand(contacts)).into_iter();
+        branches.map(move |branch| Elsewhere { place, branch })
+    };
+    places.into_iter().flat_map(in_place).collect()
 }

@@ -1,5 +1,5 @@
 //! Compares the library, called through its C interface, with a second implementation of document 01 and of
-//! requests 01, 02, 05 and 06 of document 02.
+//! requests 01, 02, 03, 05 and 06 of document 02.
 //!
 //! Random and damaged programs of both sorts (over one contact and over two), traces, tables, rings, records and
 //! archives are handed to both, and programs with the traces or in a format of the other sort. The number answered,
@@ -10,6 +10,10 @@
 //! third time, as trees, to count what was taken: the lines `taken` and `met`. Others (kind `kinds`) have one node of a
 //! kind that its place does not demand, in each nesting of two places, or (kind `digits`) functions of each mix of
 //! parameters, whose bodies tell the values of each cell.
+//!
+//! Rules that only loop (kind `follow`) are followed, and evaluated with a table as well: both must come to the same
+//! verdict. Some count through all their configurations before they end. In others (kind `elsewhere`) one call does not
+//! only loop, in each place where it may stand.
 //!
 //! To build and run it:
 //!
@@ -30,15 +34,15 @@
 //! - `--loud`: names each round and kind before it is run, to find one that does not return.
 //!
 //! A difference is printed with its seed, its round and the case in hexadecimal, and the exit status is 1.
-//! The status is 1 also where all kinds are run for 1,000 rounds or more and a number from 1 to 23, 25 or 26 is not
-//! answered over one contact and over two (18 and 19, which are the ring's, at all), or a record with a label, with one
-//! of zeros, with none or with a guard trace is never read, and where the rounds are so many that all was tried (some
-//! 5,700) and something else that `met` counts was never met, or an operation never answered 16, 25 or 26 over one
-//! contact and over two.
+//! The status is 1 also where all kinds are run for 1,000 rounds or more and a number from 1 to 26 is not answered over
+//! one contact and over two (18 and 19, which are the ring's, at all), or a record with a label, with one of zeros, with
+//! none or with a guard trace is never read, and where the rounds are so many that all was tried (some 5,700) and
+//! something else that `met` counts was never met, or an operation never answered 16, 25 or 26 over one contact and over
+//! two.
 //!
-//! Not covered: buffers that overlap, null pointers with a length other than 0, pass counts
-//! above some thousands, more than one evaluation of each sort with 16,777,216 cells (none with `--exact`), and
-//! the exit status of the listing executable.
+//! Not covered: buffers that overlap, null pointers with a length other than 0, pass counts above some thousands, more
+//! than one evaluation of each sort with 16,777,216 cells and more than one run of as many calls (none with `--exact`),
+//! and the exit status of the listing executable.
 
 mod cases;
 mod ffi;

@@ -1,16 +1,20 @@
 //! What of the language the cases meet: each node that is taken on some values, as a pair of its place and
-//! its sort, with its depth and what comes of it; and each node of a kind that its place does not demand.
+//! its sort, with its depth and what comes of it; each node of a kind that its place does not demand; each place where a
+//! call does not only loop, and each way in which following ends.
 
+mod endings;
 mod walk;
 
 use std::fmt;
 
 use super::language::{
-    demand_name, demands, depths, nestings, over, pairs, triples, Nesting, Outcome, Place, Sort,
-    DEEPEST,
+    demand_name, demands, depths, elsewhere, nestings, over, pairs, triples, Elsewhere, Nesting,
+    Outcome, Place, Sort, DEEPEST,
 };
+use super::oracle::follow::Followed;
 use super::oracle::program::{Contacts, Demand};
 use super::oracle::trace::Samples;
+use endings::Ending;
 use walk::{Function, Kinds, Node, Walk};
 
 /// The most functions of a program.
@@ -37,6 +41,10 @@ pub struct Met {
     faults: Vec<u64>,
     /// Nodes at fault, by nesting.
     nestings: Vec<u64>,
+    /// Calls that do not only loop, by place.
+    elsewhere: Vec<u64>,
+    /// Runs that were followed, by ending.
+    endings: Vec<u64>,
 }
 
 /// What is counted.
@@ -59,6 +67,10 @@ pub enum Counted {
     OtherKind(Demand, Sort),
     /// A node at fault in the nesting of a number.
     Nested(usize, Nesting),
+    /// A call that does not only loop, in the place of a number.
+    Elsewhere(usize, Elsewhere),
+    /// An ending of a number.
+    Ending(usize, Ending),
 }
 
 /// Counts of things that must all be met, each with its words.
@@ -86,6 +98,8 @@ impl Met {
             callees: vec![0; FUNCTIONS],
             faults: vec![0; pairs],
             nestings: vec![0; nestings(contacts).len()],
+            elsewhere: vec![0; elsewhere(contacts).len()],
+            endings: vec![0; Ending::all().len()],
         }
     }
 
@@ -135,6 +149,18 @@ impl Met {
         self.faults[number(place, sort)] += 1;
     }
 
+    /// Counts a program that is refused by a call in the place of a number.
+    pub fn count_elsewhere(&mut self, place: usize) {
+        self.elsewhere[place] += 1;
+    }
+
+    /// Counts what following came to.
+    pub fn count_followed(&mut self, followed: &Followed) {
+        let ending = Ending::of(followed);
+        let number = Ending::all().iter().position(|it| *it == ending);
+        self.endings[number.expect("these are all endings")] += 1;
+    }
+
     /// How often something was met.
     fn times(&self, counted: Counted) -> u64 {
         match counted {
@@ -177,6 +203,8 @@ impl Met {
                 places.map(|place| self.faults[number(place, sort)]).sum()
             }
             Counted::Nested(nesting, _) => self.nestings[nesting],
+            Counted::Elsewhere(place, _) => self.elsewhere[place],
+            Counted::Ending(ending, _) => self.endings[ending],
         }
     }
 
@@ -188,8 +216,15 @@ impl Met {
         Tally::new(&format!("{name}{over}"), counts.collect())
     }
 
-    /// All that the targets must meet together.
+    /// All that must be met.
     pub fn tallies(&self) -> Vec<Tally> {
+        let mut tallies = self.language();
+        tallies.extend(self.following());
+        tallies
+    }
+
+    /// All that the targets must meet together.
+    fn language(&self) -> Vec<Tally> {
         let contacts = self.contacts;
         let ends = pairs(contacts)
             .into_iter()
@@ -218,6 +253,22 @@ impl Met {
         });
         tallies.extend(self.kind_faults());
         tallies
+    }
+
+    /// A call stands in every place where it does not only loop, and following ends in every way.
+    fn following(&self) -> [Tally; 2] {
+        let places = elsewhere(self.contacts).into_iter().enumerate();
+        let endings = Ending::all().into_iter().enumerate();
+        [
+            self.tally(
+                "places of calls that do not loop",
+                places.map(|(number, it)| Counted::Elsewhere(number, it)),
+            ),
+            self.tally(
+                "endings of following",
+                endings.map(|(number, it)| Counted::Ending(number, it)),
+            ),
+        ]
     }
 
     /// Every nesting has a kind fault, every place but branches has one, and every sort of node is one where something
@@ -283,13 +334,22 @@ impl Met {
         ]
     }
 
-    /// A line for each place with the counts of its sorts, one for the depths, and one for each tally.
+    /// What was met of the language, and by following.
     pub fn lines(&self) -> String {
+        let none = |counts: [&Vec<u64>; 2]| counts.into_iter().flatten().all(|count| *count == 0);
         let mut text = String::new();
-        let mut counts = self.pairs.iter().chain(&self.faults);
-        if counts.all(|count| *count == 0) {
-            return text;
+        if !none([&self.pairs, &self.faults]) {
+            text += &self.language_lines();
         }
+        if !none([&self.elsewhere, &self.endings]) {
+            text += &self.following().map(|tally| tally.line()).concat();
+        }
+        text
+    }
+
+    /// A line for each place with the counts of its sorts, one for the depths, and one for each tally.
+    fn language_lines(&self) -> String {
+        let mut text = String::new();
         let over = over(self.contacts);
         for place in Place::all(self.contacts) {
             text += &format!("taken{over} in {}:", place.name());
@@ -307,7 +367,7 @@ impl Met {
             text += &format!(" {depth}:{}", self.times(Counted::Depth(depth)));
         }
         text += "\n";
-        text + &self.tallies().iter().map(Tally::line).collect::<String>()
+        text + &self.language().iter().map(Tally::line).collect::<String>()
     }
 }
 
@@ -374,6 +434,8 @@ impl fmt::Display for Counted {
                 )
             }
             Counted::Nested(_, nesting) => out.write_str(&nesting.name()),
+            Counted::Elsewhere(_, elsewhere) => out.write_str(&elsewhere.name()),
+            Counted::Ending(_, ending) => out.write_str(&ending.name()),
         }
     }
 }

@@ -1,7 +1,8 @@
-//! A second implementation of document 01 and of requests 01, 02, 05 and 06 of document 02, used as the oracle.
+//! A second implementation of document 01 and of requests 01, 02, 03, 05 and 06 of document 02, used as the oracle.
 //!
 //! Each operation works on copies of the lent memory and leaves them as the library must leave its own.
 
+pub mod follow;
 pub mod listing;
 pub mod pass;
 pub mod program;
@@ -10,11 +11,12 @@ pub mod ring;
 pub mod search;
 pub mod trace;
 
+use follow::{Followed, Rules};
 use program::Function;
 use search::Evaluation;
 use trace::{Samples, Traces};
 
-/// The largest number of cells an evaluation may need.
+/// The largest number of cells an evaluation may need, and of configurations that following may have.
 pub const MOST_CELLS: u64 = 16_777_216;
 
 /// The check that the cells needed are not more than the limit or the table.
@@ -48,6 +50,17 @@ fn prepared(program: &[u8], traces: &Traces) -> Result<(Vec<Function>, Samples),
 pub fn evaluate(program: &[u8], traces: &Traces, table: &mut [u16]) -> Result<Evaluation, u32> {
     let (functions, samples) = prepared(program, traces)?;
     fill(&functions, &samples, table)
+}
+
+/// Following: program check, places of the calls, trace check, number of configurations.
+pub fn follow(program: &[u8], traces: &Traces) -> Result<Followed, u32> {
+    let functions = program::check_for(traces.contacts(), program)?;
+    let rules = Rules::new(&functions).ok_or(24u32)?;
+    let samples = trace::lent(traces)?;
+    match search::cells_needed(&functions, &samples) > MOST_CELLS {
+        true => Err(21),
+        false => Ok(rules.follow(&samples)),
+    }
 }
 
 /// A single pass over a table as it is: how many outcomes it stored.

@@ -4,12 +4,12 @@ use std::collections::BTreeMap;
 
 use super::language::{mix_name, mixes, over};
 use super::met::{Met, Tally};
+use super::oracle::follow::Followed;
 use super::oracle::program::{Contacts, Fault};
 use super::oracle::search::Evaluation;
 
-/// The refusal numbers of document 01 and request 01, those of request 06, and those that rings alone meet.
-const NUMBERS: std::ops::RangeInclusive<u32> = 1..=23;
-const OF_KINDS: [u32; 2] = [25, 26];
+/// The refusal numbers, and those that rings alone meet.
+const NUMBERS: std::ops::RangeInclusive<u32> = 1..=26;
 const OF_RINGS: [u32; 2] = [18, 19];
 
 /// The records that are told apart where one is read.
@@ -25,6 +25,9 @@ pub struct Report {
     verdicts: [[u64; 5]; 2],
     most_passes: u32,
     most_cells: usize,
+    /// The verdicts of following.
+    followed: [[u64; 5]; 2],
+    most_calls: u64,
     met: [Met; 2],
 }
 
@@ -37,6 +40,8 @@ impl Default for Report {
             verdicts: [[0; 5]; 2],
             most_passes: 0,
             most_cells: 0,
+            followed: [[0; 5]; 2],
+            most_calls: 0,
             met: Contacts::ALL.map(Met::new),
         }
     }
@@ -73,6 +78,13 @@ impl Report {
         self.most_cells = self.most_cells.max(evaluation.cells.len());
     }
 
+    /// Counts what following came to.
+    pub fn followed(&mut self, contacts: Contacts, followed: &Followed) {
+        self.followed[contacts as usize][usize::from(followed.verdict)] += 1;
+        self.most_calls = self.most_calls.max(followed.calls);
+        self.met(contacts).count_followed(followed);
+    }
+
     /// What was met of the language, in programs of a sort.
     pub fn met(&mut self, contacts: Contacts) -> &mut Met {
         &mut self.met[contacts as usize]
@@ -92,7 +104,7 @@ impl Report {
     /// Every refusal number, over both sorts but for those of rings.
     pub fn numbers(&self) -> Tally {
         let mut counts = Vec::new();
-        for number in NUMBERS.chain(OF_KINDS) {
+        for number in NUMBERS {
             let [one, two] = Contacts::ALL.map(|it| self.times(it, number));
             match OF_RINGS.contains(&number) {
                 true => counts.push((format!("number {number}"), one)),
@@ -149,14 +161,14 @@ impl Report {
         self.met.iter().flat_map(Met::tallies).collect()
     }
 
-    /// A line for each kind of case and sort, one on the records read, those on the evaluations, and what they met of
-    /// the language.
+    /// A line for each kind of case and sort, one on the records read, those on the verdicts, and what they met of the
+    /// language.
     pub fn lines(&self) -> String {
         let lines = self.kinds.iter().map(|(kind, counts)| line(*kind, counts));
         let met = self.met.iter().map(Met::lines);
         lines.collect::<String>()
             + &self.read_records()
-            + &self.evaluations()
+            + &self.worked_out_lines()
             + &met.collect::<String>()
             + &self.numbers().line()
     }
@@ -170,18 +182,21 @@ impl Report {
         )
     }
 
-    /// A line on all evaluations of each sort, and one on the largest.
-    fn evaluations(&self) -> String {
+    /// A line on all evaluations of each sort, one on all runs that were followed, and one on the largest.
+    fn worked_out_lines(&self) -> String {
         let mut text = String::new();
-        for contacts in Contacts::ALL {
-            let [forever, no, yes, head, tail] = self.verdicts[contacts as usize];
-            text += &format!(
-                "verdicts{}: forever {forever}, no {no}, yes {yes}, head {head}, tail {tail}\n",
-                over(contacts)
-            );
+        for (name, verdicts) in [("verdicts", self.verdicts), ("followed", self.followed)] {
+            for contacts in Contacts::ALL {
+                let [forever, no, yes, head, tail] = verdicts[contacts as usize];
+                text += &format!(
+                    "{name}{}: forever {forever}, no {no}, yes {yes}, head {head}, tail {tail}\n",
+                    over(contacts)
+                );
+            }
         }
         let (passes, cells) = (self.most_passes, self.most_cells);
-        text + &format!("most passes {passes}, most cells {cells}\n")
+        let calls = self.most_calls;
+        text + &format!("most passes {passes}, most cells {cells}, most calls {calls}\n")
     }
 }
 

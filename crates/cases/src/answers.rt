@@ -1,7 +1,9 @@
 // The answers of the library in words and numbers.
 use archive::Step;
+use chains::Followed;
 use evaluate::Evaluated;
 use evaluate::PassMade;
+use follow::Following;
 use layout::GuardTrace;
 use layout::Label;
 use layout::Parts;
@@ -67,6 +69,21 @@ pub fn evaluated(answer: Evaluated) {
     match answer {
         Evaluated::Verdict(found) => verdict(b" verdict", found),
         Evaluated::Refused(refusal) => refused(refusal),
+    }
+}
+
+// The number of a verdict, and the calls made.
+fn ended(found: Followed) {
+    let decision = found.decision;
+    told(b" verdict", semantics::verdict_number(decision) as usize);
+    told(b" calls", found.calls as usize);
+}
+
+// The answer of following.
+pub fn followed(answer: Following) {
+    match answer {
+        Following::Ended(found) => ended(found),
+        Following::Refused(refusal) => refused(refusal),
     }
 }
 

@@ -26,13 +26,17 @@ const WALK: usize = 6;
 
 const EVALUATE: usize = 8;
 
-const WRITE: usize = 10;
+const FOLLOW: usize = 10;
 
-const EVALUATE_TWO: usize = 11;
+const WRITE: usize = 11;
 
-const WRITE_TWO: usize = 13;
+const EVALUATE_TWO: usize = 12;
 
-const CHECK_RECORD: usize = 14;
+const FOLLOW_TWO: usize = 14;
+
+const WRITE_TWO: usize = 15;
+
+const CHECK_RECORD: usize = 16;
 
 // Makes the call of the operation with a number, and prints its answer.
 pub fn perform(
@@ -105,6 +109,7 @@ fn of_rule(
 ) {
     match index {
         EVALUATE => answers::evaluated(evaluate::evaluate(program, trace, n, table)),
+        FOLLOW => answers::followed(follow::follow(program, trace, n)),
         WRITE => answers::written(record::write(program, trace, n, table, out)),
         _ => answers::passed(evaluate::pass(program, trace, n, table)),
     }
@@ -131,6 +136,7 @@ fn of_two(
             m,
             table,
         )),
+        FOLLOW_TWO => answers::followed(follow::follow_two(program, ram, n, guard, m)),
         WRITE_TWO => answers::written(record::write_two(program, ram, n, guard, m, table, out)),
         _ => answers::passed(evaluate::pass_two(program, ram, n, guard, m, table)),
     }

@@ -9,9 +9,9 @@
 //
 //     add SLOTS NEXT COUNT SAMPLE       take SLOTS NEXT COUNT OUTPUT       fill SLOTS SAMPLES
 //     check PROGRAM                     evaluate PROGRAM TRACE N TABLE     pass PROGRAM TRACE N TABLE
-//     write PROGRAM TRACE N TABLE OUTPUT
+//     follow PROGRAM TRACE N            write PROGRAM TRACE N TABLE OUTPUT
 //     evaluate-two PROGRAM RAM N GUARD M TABLE         pass-two PROGRAM RAM N GUARD M TABLE
-//     write-two PROGRAM RAM N GUARD M TABLE OUTPUT
+//     follow-two PROGRAM RAM N GUARD M                 write-two PROGRAM RAM N GUARD M TABLE OUTPUT
 //     read RECORD                       check-record RECORD TABLE          examine RECORD TABLE
 //     last ARCHIVE LEFT                 walk ARCHIVE                       list ARCHIVE
 //

@@ -13,7 +13,7 @@ const WRITTEN: usize = 5000;
 const CELLS: usize = 5000;
 
 // The operations, the bytes of a row for each, and the place of the fields in a row.
-const OPERATIONS: usize = 16;
+const OPERATIONS: usize = 18;
 
 const WIDTH: usize = 20;
 
@@ -21,7 +21,7 @@ const SHAPE: usize = 13;
 
 // A row for each operation, its name and its fields: n a number, b bytes that are read, w bytes that may be
 // written, c cells that may be. Its number is its place in this table.
-fn operations() -> [u8; 320] {
+fn operations() -> [u8; 360] {
     *b"add          wnnb   \
        take         bnnw   \
        fill         wb     \
@@ -32,9 +32,11 @@ fn operations() -> [u8; 320] {
        list         b      \
        evaluate     bbnc   \
        pass         bbnc   \
+       follow       bbn    \
        write        bbncw  \
        evaluate-two bbnbnc \
        pass-two     bbnbnc \
+       follow-two   bbnbn  \
        write-two    bbnbncw\
        check-record bc     \
        examine      bc     "

@@ -107,7 +107,7 @@ fn decoded(
 }
 
 // A constant, by the number of its outcome.
-fn constant(number: u16) -> u64
+pub fn constant(number: u16) -> u64
     ensures { λ r. ⌜ r ≡ constantBy number ⌝ }
 {
     nodes::node(nodes::CONSTANT, 0, number % 4096, number / 4096, 0, 0)

@@ -1,5 +1,6 @@
 -- What a settled evaluation comes to:
 --   program-is          the program that the bytes are read as
+--   run-here            the arrays of the evaluation are its own
 --   main-small          main's cell is among the most cells that there can be
 --   settled-within      it lies within the table that all passes leave
 --   settled-verdict     what all passes decide and leave
@@ -78,7 +79,7 @@ module _ {bytes : List ℕ} {h : Handed} {outline : Outline} {places : Cells} {l
     abbrev S : Setup
     S = setup words (places .functions) bytesOf
 
-    run-here : Runs (u .program) t n bytes S (outline .starts)
+    pub run-here : Runs (u .program) t n bytes S (outline .starts)
     run-here = rw (w, z, functions-are, u .first, u .laid) (runs (u .accepted) (h .ram) (h .guard) n (u .few) (u .fits))
 
     -- the needed cells are cleared, those beyond keep their content

@@ -1,5 +1,8 @@
 -- The evaluation of the words of an expression, by places and numbers, comes to what the rules say of it:
---   eval-means       the working number of what the body of a function, or a part of it, gives
+--   Decoded, decoded       the word of a node
+--   called-by              the word of a call
+--   args-within            the places of arguments
+--   eval-means             the working number of what the body of a function, or a part of it, gives
 use Prim.Native.Nat.{ℕ, zero, suc, _+_, _*_, _/_, _%_, _≤_, _<_}
 use native.Mathlib.Nat.{mod-eq-of-lt}
 use native.Mathlib.Omega.{arith}
@@ -17,7 +20,7 @@ use Rattle.semantics.specs.Cells.{falseCode, trueCode, suffixCode, contentOf}
 use Rattle.semantics.specs.Bodies.{paramValue, bodyOutcome, argsOutcome, withValue, withValues, operated, chosen}
 use Rattle.semantics.specs.Visits.{Table, lookup}
 use Rattle.semantics.proofs.Demands.{allows-own}
-use Rattle.semantics.proofs.Bodies.{kinded}
+use Rattle.semantics.proofs.Bodies.{value-there, kinded}
 use Rattle.semantics.proofs.Visits.{lookup-kinds}
 use Rattle.syntax.specs.declared.Node.{Node}
 use Rattle.syntax.specs.Limits.{mostParams, mostBody}
@@ -37,11 +40,11 @@ use Rattle.evaluator.proofs.Sets.{EnvOf, Sets}
 use Rattle.evaluator.proofs.NodeMeaning.{Stand, Within, stand, leaves-kept, constant-word, param-word, opBy, op-word, choice, if-word, call-word}
 use Rattle.evaluator.proofs.CallMeaning.{Due, due-first, due-next, args-one, args-none}
 
-append-four : (a b c d : List ℕ) → (a ++ (b ++ c)) ++ d ≡ a ++ (b ++ (c ++ d))
+pub append-four : (a b c d : List ℕ) → (a ++ (b ++ c)) ++ d ≡ a ++ (b ++ (c ++ d))
 append-four a b c d = simp append-assoc
 
 -- an expression is at least one node deep
-depth-pos : (e : Expr) → 0 < depth e
+pub depth-pos : (e : Expr) → 0 < depth e
 unfolding depth
 depth-pos (constant b) = omega arith
 depth-pos (empty c) = omega arith
@@ -55,14 +58,6 @@ args-deep : (P : Program) (Γ : List Kind) (xs : Args) (κs : List Kind) (d : �
 unfolding depthAll
 args-deep P Γ noArgs κs d m h l = let none : length κs ≡ 0 = rw m in absurd (omega arith)
 args-deep P Γ (arg e xs) κs d m h l = omega (arith, depth-pos e)
-
--- each parameter has a value
-value-there : (t : Traces) (Γ : List Kind) (vs : List Value) → InKinds t Γ vs → (i : ℕ) (κ : Kind) → getElem? Γ i ≡ some κ
-    → (v : Value) × (getElem? vs i ≡ some v)
-value-there t [] vs hs i κ e = let z : _≡_ {A = ℕ} 0 1 = cc in absurd (omega arith)
-value-there t (k ∷ Γ) [] hs i κ e = absurd hs
-value-there t (k ∷ Γ) (v ∷ vs) hs zero κ e = (v, refl)
-value-there t (k ∷ Γ) (v ∷ vs) hs (suc i) κ e = value-there t Γ vs (hs .1) i κ e
 
 -- the if, by the numbers of what its parts give
 branch-means : (t : Traces) (eval : ℕ → ℕ) (at then other : ℕ) (c a b : Option Outcome) → OfDemand t (only truth) c → eval at ≡ workingContent c
@@ -95,14 +90,14 @@ module _ (P : Program) (t : Traces) (n : Lengths) (bytes W traces : List ℕ) (s
 
   -- ---- The node at a place
 
-  record Decoded (at : ℕ) (k : Node) : Type 0 where
-    ends : List ℕ
-    right : Ends P bytes (at + 1) ends
-    later : List ℕ
-    kept : (p : ℕ) → at + 1 ≤ p → getD later p 0 ≡ getD W p 0
-    word : getD W at 0 ≡ decodedBy (s .counts) (s .array) ends later (at + 1) (getD W (at + 1) 0) k
+  pub record Decoded (at : ℕ) (k : Node) : Type 0 where
+    pub ends : List ℕ
+    pub right : Ends P bytes (at + 1) ends
+    pub later : List ℕ
+    pub kept : (p : ℕ) → at + 1 ≤ p → getD later p 0 ≡ getD W p 0
+    pub word : getD W at 0 ≡ decodedBy (s .counts) (s .array) ends later (at + 1) (getD W (at + 1) 0) k
 
-  decoded : (at b : ℕ) (bs : List ℕ) (k : Node) → drop at bytes ≡ b ∷ bs → nodeOf b ≡ k → Decoded at k
+  pub decoded : (at b : ℕ) (bs : List ℕ) (k : Node) → drop at bytes ≡ b ∷ bs → nodeOf b ≡ k → Decoded at k
   unfolding wordBy
   decoded at b bs k h e =
       let x = s .nodes at (byte-within bytes at h) in
@@ -117,7 +112,7 @@ module _ (P : Program) (t : Traces) (n : Lengths) (bytes W traces : List ℕ) (s
       }
 
   -- the word of a call, by the callee's result kind and its parameters
-  called-by : (low : ℕ) (ends later : List ℕ) (g : ℕ) (f : Function) (first : ℕ) → getElem? P g ≡ some f → g < 32
+  pub called-by : (low : ℕ) (ends later : List ℕ) (g : ℕ) (f : Function) (first : ℕ) → getElem? P g ≡ some f → g < 32
       → length (f .params) ≤ 4 → Within low ends (length (f .params)) first → ((p : ℕ) → low ≤ p → getD later p 0 ≡ getD W p 0)
       → let small = g % 32 + 32 * length (f .params) in
       calledBy (s .array) ends later (argumentsOf (s .counts) g) g first
@@ -176,7 +171,7 @@ module _ (P : Program) (t : Traces) (n : Lengths) (bytes W traces : List ℕ) (s
           )
 
       -- arguments stand at places that fit a word
-      args-within : (xs : Args) (κs : List Kind) (at : ℕ) (rest : List ℕ) → low ≤ at → at + length (encodeArgs xs) ≤ low + mostBody → MeetAll P Γ κs xs
+      pub args-within : (xs : Args) (κs : List Kind) (at : ℕ) (rest : List ℕ) → low ≤ at → at + length (encodeArgs xs) ≤ low + mostBody → MeetAll P Γ κs xs
           → drop at bytes ≡ encodeArgs xs ++ rest → Within low ends (length κs) at
       unfolding encodeArgs
       args-within noArgs κs at rest l near m h = rw m tt

@@ -77,7 +77,7 @@ pub fn eval(
 }
 
 // As eval; a parameter, its tl and its hd are taken at once.
-fn operand(
+pub fn operand(
     words: &[u64; WORDS],
     traces: &[u8; codes::TRACES_BYTES],
     table: &&[u16],

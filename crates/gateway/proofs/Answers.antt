@@ -3,22 +3,27 @@
 --   untold         a refusal leaves what was there
 --   told-as        what is told of an answer is told of what it is
 --   evaluated-told, written-told    what is told of what evaluating and recording answer, and of demand 3
+--   followed-told  what is told of what following answers, and of what it owes
 --   compared-told  what is told of a verdict that a record was compared with
 use mathlib.Core.Path.{_≡_, refl, sym, ap, _∙_}
 use mathlib.Core.Bool.{Bool, true, false}
 use mathlib.Core.List.{List, [], _∷_}
 use Prim.Native.Nat.{ℕ}
-use lib.ListN.{length}
+use lib.ListN.{length, getD}
 use Rattle.refusal.specs.declared.Refusal.{Refusal}
 use Rattle.refusal.specs.{numberOf, Answer, answered, valuesLeft}
 use Rattle.refusal.proofs.Numbers.{refused-left}
 use Rattle.trace.specs.{digit}
 use Rattle.semantics.specs.declared.Verdict.{Verdict}
 use Rattle.semantics.specs.Handed.{Handed}
-use Rattle.semantics.specs.Verdicts.{verdictValues}
+use Rattle.semantics.specs.Verdicts.{verdictNumber, verdictValues}
 use Rattle.evaluate.specs.declared.Evaluated.{Evaluated}
 use Rattle.evaluate.specs.declared.Evaluated.the-variants as evaluated
 use Rattle.evaluate.specs.Evaluate.{evaluation, evaluatedAnswer, tableEvaluated, Demand3}
+use Rattle.chains.specs.Following.{followedValues}
+use Rattle.follow.specs.declared.Following.{Following}
+use Rattle.follow.specs.declared.Following.the-variants as following
+use Rattle.follow.specs.Follow.{followingOf, followingAnswer, FollowDemand, AsTable, ToldDecision}
 use Rattle.record.specs.declared.Written.{Written}
 use Rattle.record.specs.declared.Written.the-variants as written
 use Rattle.record.specs.Recording.{recordOf, writing, writtenAnswer, outputWritten, tableWritten, RecordDemand3}
@@ -73,6 +78,27 @@ module _ (program : List ℕ) (h : Handed) (T T′ : List ℕ) {number : ℕ} {l
         all .0,
         (output, (cells, (all .1, λ enough P a f t. let d = decides enough P a f t in (d .0, told-as writtenAnswer old n l (d .1), d .2)))),
       )
+
+-- the clauses of following
+pub followed-told : (program : List ℕ) (h : Handed) {r : Following} {number : ℕ} {left : List ℕ} (old : List ℕ) → number ≡ followingAnswer r .number
+    → left ≡ valuesLeft (followingAnswer r) old → r ≡ followingOf program h → FollowDemand program h (λ q. r ≡ following.Ended q)
+    → AsTable program h (ToldDecision r)
+    → (number ≡ followingAnswer (followingOf program h) .number)
+    × ((left ≡ valuesLeft (followingAnswer (followingOf program h)) old)
+    × (FollowDemand program h (λ q. (number ≡ 0) × (left ≡ followedValues q))
+    × AsTable program h (λ d. (number ≡ 0) × (getD left 0 0 ≡ verdictNumber d))))
+unfolding valuesLeft
+followed-told program h old n l answer owed table =
+    let all = told-as followingAnswer old n l answer in (
+      all .0,
+      (
+        all .1,
+        (
+          λ P a loops f t. let d = owed P a loops f t in (d .0, told-as followingAnswer old n l (d .1), d .2),
+          λ P a loops lent v e. let d = told-as followingAnswer old n l (table P a loops lent v e .1) in (d .0, ap (λ x. getD x 0 0) (d .1)),
+        ),
+      ),
+    )
 
 pub compared-told : (bytes : List ℕ) (v : Verdict) (old : List ℕ)
     → (checkedAnswer (comparedIn bytes v) .number ≡ 0) × (valuesLeft (firstAlone (checkedAnswer (comparedIn bytes v))) old ≡ agreementValues bytes v)

@@ -1,6 +1,7 @@
 // The functions that the daemon in C calls, on bytes and numbers alone. include/sikafondza.h declares
 // them for C and is their documentation.
 use evaluate::Evaluated;
+use follow::Following;
 use layout::GuardTrace;
 use layout::Label;
 use layout::Reading;
@@ -11,14 +12,16 @@ use ring::Ring;
 use ring::Taken;
 ghost use mathlib.Core.Path.{_≡_};
 ghost use mathlib.Core.List.{[], _∷_};
-ghost use lib.ListN.{length};
+ghost use lib.ListN.{length, getD};
 ghost use Rattle.refusal.specs.{checkNumber, valuesLeft};
 ghost use Rattle.ring.specs.{slotsAfter, adding, addedAnswer, taking, takenAnswer, outputAfter};
 ghost use Rattle.semantics.specs.Handed.{oneTrace, twoTraces};
-ghost use Rattle.semantics.specs.Verdicts.{verdictValues};
+ghost use Rattle.semantics.specs.Verdicts.{verdictNumber, verdictValues};
 ghost use Rattle.rule.specs.declared.Sorts.the-variants as Sorts;
 ghost use Rattle.rule.specs.Reading.{programCheck};
 ghost use Rattle.evaluate.specs.Evaluate.{evaluation, evaluatedAnswer, tableEvaluated, Demand3};
+ghost use Rattle.chains.specs.Following.{followedValues};
+ghost use Rattle.follow.specs.Follow.{followingOf, followingAnswer, FollowDemand, AsTable};
 ghost use Rattle.record.specs.Reading.{reading, readAnswer, labelStart, labelLength, guardValues};
 ghost use Rattle.record.specs.Recording.{recordOf, writing, writtenAnswer, outputWritten, tableWritten, RecordDemand3};
 ghost use Rattle.record.specs.Checking.{checking, checkedAnswer, tableChecked, CheckDemand3};
@@ -139,6 +142,54 @@ fn answer_with(evaluated: Evaluated, answer: &mut [u64; 2]) -> u32
             0
         }
         Evaluated::Refused(refusal) => refusal::number(refusal),
+    }
+}
+
+// Follows the calls of a program of one contact that only loops, on a packed trace of n samples and with no table: 0, with the
+// verdict's number and the calls made in `answer`; or the number of the refusal, with `answer` as it was.
+#[no_mangle]
+pub extern "C" fn sik_follow(program: &[u8], trace: &[u8], n: u64, answer: &mut [u64; 2]) -> u32
+    ensures number { λ r. ⌜ r ≡ followingAnswer (followingOf (now (program .entry)) (oneTrace (now (trace .entry)) n)) .number ⌝ }
+    ensures answer { λ _. ⌜ now (answer .exit) ≡ valuesLeft (followingAnswer (followingOf (now (program .entry)) (oneTrace (now (trace .entry)) n))) (now (answer .entry)) ⌝ }
+    ensures owed { λ r. ⌜ FollowDemand (now (program .entry)) (oneTrace (now (trace .entry)) n) (λ q. (r ≡ 0) × (now (answer .exit) ≡ followedValues q)) ⌝ }
+    ensures table { λ r. ⌜ AsTable (now (program .entry)) (oneTrace (now (trace .entry)) n) (λ d. (r ≡ 0) × (getD (now (answer .exit)) 0 0 ≡ verdictNumber d)) ⌝ }
+{
+    let following = follow::follow(program, trace, n as usize);
+    answer_followed(following, answer)
+}
+
+// The same of a program of two contacts, on packed traces of n samples of the ram and m of the guard.
+#[no_mangle]
+pub extern "C" fn sik_follow_two(
+    program: &[u8],
+    ram: &[u8],
+    n: u64,
+    guard: &[u8],
+    m: u64,
+    answer: &mut [u64; 2],
+) -> u32
+    ensures number { λ r. ⌜ r ≡ followingAnswer (followingOf (now (program .entry)) (twoTraces (now (ram .entry)) n (now (guard .entry)) m)) .number ⌝ }
+    ensures answer { λ _. ⌜ now (answer .exit) ≡ valuesLeft (followingAnswer (followingOf (now (program .entry)) (twoTraces (now (ram .entry)) n (now (guard .entry)) m))) (now (answer .entry)) ⌝ }
+    ensures owed { λ r. ⌜ FollowDemand (now (program .entry)) (twoTraces (now (ram .entry)) n (now (guard .entry)) m) (λ q. (r ≡ 0) × (now (answer .exit) ≡ followedValues q)) ⌝ }
+    ensures table { λ r. ⌜ AsTable (now (program .entry)) (twoTraces (now (ram .entry)) n (now (guard .entry)) m) (λ d. (r ≡ 0) × (getD (now (answer .exit)) 0 0 ≡ verdictNumber d)) ⌝ }
+{
+    let following = follow::follow_two(program, ram, n as usize, guard, m as usize);
+    answer_followed(following, answer)
+}
+
+// Writes a verdict's number and the calls made, and answers 0; or answers the number of the refusal.
+fn answer_followed(following: Following, answer: &mut [u64; 2]) -> u32
+    ensures number { λ r. ⌜ r ≡ followingAnswer following .number ⌝ }
+    ensures answer { λ _. ⌜ now (answer .exit) ≡ valuesLeft (followingAnswer following) (now (answer .entry)) ⌝ }
+{
+    match following {
+        Following::Ended(followed) => {
+            let decision = followed.decision;
+            let number = semantics::verdict_number(decision);
+            *answer = [number as u64, followed.calls as u64];
+            0
+        }
+        Following::Refused(refusal) => refusal::number(refusal),
     }
 }
 

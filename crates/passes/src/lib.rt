@@ -66,7 +66,7 @@ fn lies_within(functions: &[u64; 96], n: Lengths, g: usize, len: usize) -> bool
 }
 
 // The word of the body that starts at a place.
-fn body_of(words: &[u64; WORDS], start: u16) -> u64
+pub fn body_of(words: &[u64; WORDS], start: u16) -> u64
     ensures { λ r. ⌜ r ≡ bodyAt (now (words .entry)) start ⌝ }
 {
     words[(start % 4096) as usize]

@@ -46,6 +46,7 @@ refusal-back refusal.TraceLength = refl
 refusal-back refusal.TableShort = refl
 refusal-back refusal.OutputShort = refl
 refusal-back refusal.PaddingSet = refl
+refusal-back refusal.CallElsewhere = refl
 refusal-back refusal.OperandKind = refl
 refusal-back refusal.ArgumentKind = refl
 

@@ -57,6 +57,8 @@ numberOf TableShort = 21
 numberOf OutputShort = 22
 -- a bit above the last sample is set
 numberOf PaddingSet = 23
+-- a call stands elsewhere than as a whole body, or as a branch of an if that itself is in such a place
+numberOf CallElsewhere = 24
 -- the node's kind is not the one its place demands, in an operand of hd, tl, null or a condition
 numberOf OperandKind = 25
 -- the same, in an argument
@@ -68,8 +70,8 @@ refusals =
     TrailerMissing ∷ MarkOrFormat ∷ TrailerFields ∷ VerdictOrPasses ∷ ProgramLength ∷ FunctionCount ∷
     HeaderCut ∷ ParameterKinds ∷ BodyLength ∷ BytesAfterFunctions ∷ MainKind ∷ BodyEnds ∷
     TooDeep ∷ ListConstructor ∷ UnknownByte ∷ WrongKind ∷ BytesAfterExpression ∷ RingLength ∷
-    RingState ∷ TraceLength ∷ TableShort ∷ OutputShort ∷ PaddingSet ∷ OperandKind ∷
-    ArgumentKind ∷ []
+    RingState ∷ TraceLength ∷ TableShort ∷ OutputShort ∷ PaddingSet ∷ CallElsewhere ∷
+    OperandKind ∷ ArgumentKind ∷ []
 
 -- the number of a check's answer; 0 stands for no refusal
 abbrev pub checkNumber : Check → ℕ
@@ -90,8 +92,8 @@ abbrev pub refuseIf : Bool → Refusal → Check
 refuseIf true f = Refused f
 refuseIf false f = Passed
 
--- 'in rising order', 23 'directly after 3 for records, after 20 for lent traces', 25 and 26 'in the place of 16': the first
--- check that refuses decides
+-- 'in rising order', 23 'directly after 3 for records, after 20 for lent traces', 24 'after 17', 25 and 26 'in the place of 16': the
+-- first check that refuses decides
 infixr 20 _then_
 abbrev pub _then_ : Check → Check → Check
 _then_ Passed next = next

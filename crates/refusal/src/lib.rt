@@ -28,6 +28,7 @@ pub enum Refusal {
     TableShort,
     OutputShort,
     PaddingSet,
+    CallElsewhere,
     OperandKind,
     ArgumentKind,
 }
@@ -60,6 +61,7 @@ pub fn number(refusal: Refusal) -> u32
         Refusal::TableShort => 21,
         Refusal::OutputShort => 22,
         Refusal::PaddingSet => 23,
+        Refusal::CallElsewhere => 24,
         Refusal::OperandKind => 25,
         Refusal::ArgumentKind => 26,
     }
@@ -109,6 +111,7 @@ pub fn numbered(number: usize) -> Check
         21 => Check::Refused(Refusal::TableShort),
         22 => Check::Refused(Refusal::OutputShort),
         23 => Check::Refused(Refusal::PaddingSet),
+        24 => Check::Refused(Refusal::CallElsewhere),
         25 => Check::Refused(Refusal::OperandKind),
         26 => Check::Refused(Refusal::ArgumentKind),
         _ => Check::Passed,

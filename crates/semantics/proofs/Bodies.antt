@@ -1,6 +1,7 @@
 -- A body with calls looked up, against derivations, over any calls and on values of their kinds:
+--   value-there                            each parameter has a value
 --   KindCalls, kinded, kinded-all          calls of their functions' kinds give outcomes that meet what is demanded
---   SoundCalls, sound                      calls that have derivations give outcomes that have derivations
+--   SoundCalls, sound, sound-all           calls that have derivations give outcomes that have derivations
 --   ClosedCalls, complete                  calls closed under evaluation give every outcome that has a derivation
 --   SameCalls, same-body, same-args        calls that agree give the same
 use Prim.Native.Nat.{ℕ, zero, suc}
@@ -143,6 +144,14 @@ pub of-given : (t : Traces) (κ : Kind) (v : Value) → ofKind t κ (given v) �
 of-given t κ (bit b) = refl
 of-given t κ (suffix c k) = refl
 
+-- each parameter has a value
+pub value-there : (t : Traces) (Γ : List Kind) (vs : List Value) → InKinds t Γ vs → (i : ℕ) (κ : Kind) → getElem? Γ i ≡ some κ
+    → (v : Value) × (getElem? vs i ≡ some v)
+value-there t [] vs hs i κ e = let z : _≡_ {A = ℕ} 0 1 = cc in absurd (omega arith)
+value-there t (k ∷ Γ) [] hs i κ e = absurd hs
+value-there t (k ∷ Γ) (v ∷ vs) hs zero κ e = (v, refl)
+value-there t (k ∷ Γ) (v ∷ vs) hs (suc i) κ e = value-there t Γ vs (hs .1) i κ e
+
 kind-param : (t : Traces) (Γ : List Kind) (env : List Value) → InKinds t Γ env → (i : ℕ) (κ : Kind) → getElem? Γ i ≡ some κ → (o : Outcome)
     → paramValue (getElem? env i) ≡ some o → T (ofKind t κ o)
 kind-param t [] env hs i κ p o q = let z : _≡_ {A = ℕ} 0 1 = cc in absurd (omega arith)
@@ -220,6 +229,9 @@ module _ (P : Program) (t : Traces) (calls : Calls) (kc : KindCalls P t calls) (
     (Γ : List Kind) (env : List Value) (hs : InKinds t Γ env) where
   pub sound : (e : Expr) (d : Demand) (o : Outcome) → Meets P Γ d e → bodyOutcome t calls env e ≡ some o → Derives P t env e o
   sound e d o m h = derives P t calls ok Γ env (λ xs κs r. kinded-all P t calls kc Γ env hs xs κs r) e d o m h
+
+  pub sound-all : (xs : Args) (κs : List Kind) (r : Arguments) → MeetAll P Γ κs xs → argsOutcome t calls env xs ≡ some r → DerivesAll P t env xs r
+  sound-all xs κs r m h = derives-all P t calls ok Γ env (λ ys κs′ r′. kinded-all P t calls kc Γ env hs ys κs′ r′) xs κs r m h
 
 -- ---- Completeness
 

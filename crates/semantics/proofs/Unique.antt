@@ -1,6 +1,7 @@
 -- A derivation's outcome is unique. Assumes nothing of program and traces.
 --   given-injective, given-not-failed    a value as an outcome
 --   derives-unique                       an outcome of an expression
+--   derives-all-unique                   what arguments give
 use Prim.Native.Nat.{ℕ, zero}
 use native.Mathlib.Omega.{arith}
 use mathlib.Core.Path.{_≡_, refl, sym, ap, subst}
@@ -126,3 +127,10 @@ module _ (P : Program) (t : Traces) where
 
   pub derives-unique : {env : List Value} {e : Expr} {o o′ : Outcome} → Derives P t env e o → Derives P t env e o′ → o ≡ o′
   derives-unique {o′ = o′} d d′ = derived only d o′ d′
+
+  pub derives-all-unique : {env : List Value} (xs : Args) {r r′ : Arguments} → DerivesAll P t env xs r → DerivesAll P t env xs r′ → r ≡ r′
+  derives-all-unique noArgs r-none d′ = only-none _ d′
+  derives-all-unique (arg e xs) (r-arg d s) d′ = only-arg (λ o q. derives-unique d q) (λ r q. derives-all-unique xs s q) _ d′
+  derives-all-unique (arg e xs) (r-arg-error d) d′ = only-arg-error (λ o q. derives-unique d q) _ d′
+  derives-all-unique (arg e xs) (r-later-error v d s) d′ =
+      only-later-error v (λ o q. derives-unique d q) (λ r q. derives-all-unique xs s q) _ d′

@@ -8,7 +8,7 @@ use super::super::oracle;
 use super::super::oracle::program::{Contacts, Fault};
 use super::super::oracle::record::Content;
 use super::super::oracle::trace;
-use super::{evaluation, hex, listing, number, program, record, Bench, Compared};
+use super::{evaluation, following, hex, listing, number, program, record, Bench, Compared};
 
 /// Over each sort there is a program in every so many rounds.
 const EVERY: [u64; 2] = [8, 3];
@@ -16,17 +16,18 @@ const EVERY: [u64; 2] = [8, 3];
 /// The operations as they are counted; the last is run if an executable is named.
 const CHECK: &str = "kinds, check";
 const EVALUATE: &str = "kinds, evaluate";
+const FOLLOW: &str = "kinds, follow";
 const WRITE: &str = "kinds, write";
 const READ: &str = "kinds, read";
 const CHECK_RECORD: &str = "kinds, check-record";
 const LISTING: &str = "kinds, listing";
-const OPERATIONS: [&str; 6] = [CHECK, EVALUATE, WRITE, READ, CHECK_RECORD, LISTING];
+const OPERATIONS: [&str; 7] = [CHECK, EVALUATE, FOLLOW, WRITE, READ, CHECK_RECORD, LISTING];
 
 /// The operations that meet kind faults, with the listing or without.
 pub fn operations(listing: bool) -> &'static [&'static str] {
     match listing {
         true => &OPERATIONS,
-        false => &OPERATIONS[..5],
+        false => &OPERATIONS[..6],
     }
 }
 
@@ -85,7 +86,7 @@ fn compare_other(bench: &mut Bench, contacts: Contacts, case: &Case) -> Compared
         verdict: bench.random.below(5) as u8,
         passes: bench.random.between(1, 300) as u32,
     };
-    match (bench.random.below(8), bench.listing) {
+    match (bench.random.below(9), bench.listing) {
         (0 | 1, _) => {
             bench.kind = EVALUATE;
             evaluation::compare(bench, &case.program, &content.traces, table)
@@ -105,7 +106,11 @@ fn compare_other(bench: &mut Bench, contacts: Contacts, case: &Case) -> Compared
             bench.kind = READ;
             record::compare_read(bench, &content.bytes()).map(|_| ())
         }
-        (6, Some(path)) => {
+        (6, _) => {
+            bench.kind = FOLLOW;
+            following::compare(bench, &case.program, &content.traces)
+        }
+        (7, Some(path)) => {
             bench.kind = LISTING;
             let sort = bench.random.pick(&Contacts::ALL);
             let last = records::sound(&mut bench.random, sort);

@@ -1,12 +1,12 @@
-//! The limit of 16,777,216 cells, and numbers of cells that 32 bits do not hold; the smallest record, and the
-//! longest listing.
+//! The limit of 16,777,216 cells or configurations, and numbers of them that 32 bits do not hold; the smallest record,
+//! and the longest listing.
 
 use super::super::generate::traces::garbage;
 use super::super::oracle::program::{self, Contacts};
 use super::super::oracle::record::{written_length, Content};
 use super::super::oracle::trace::{packed, Samples};
 use super::super::oracle::{search, MOST_CELLS};
-use super::{evaluation, listing, record, Bench, Compared};
+use super::{evaluation, following, listing, record, Bench, Compared};
 
 /// A table longer than the limit.
 const LONG: usize = 17_000_000;
@@ -31,6 +31,8 @@ const FULL: [(Contacts, &Others, usize); 2] = [
     ),
     (Contacts::Two, &[], 4_095),
 ];
+/// Main over two contacts, which calls itself on the same lists.
+const ITSELF: &[u8] = &[0x81, 2, 3, 2, 3, 0, 0x80, 0x10, 0x11];
 /// The longest archive that is listed.
 const LONGEST_ARCHIVE: usize = 32_768;
 
@@ -140,7 +142,7 @@ fn few_cells(bench: &mut Bench) -> Compared {
             for functions in [1, 31] {
                 let program = program_of(contacts, &vec![other; functions]);
                 for cells in [1_000, 5_000] {
-                    three(bench, &program, &ones(contacts, 4_095), cells)?;
+                    four(bench, &program, &ones(contacts, 4_095), cells)?;
                 }
             }
         }
@@ -154,12 +156,12 @@ fn long_table(bench: &mut Bench) -> Compared {
         let program = program_of(contacts, &[others, &[(0, 0, 0)]].concat());
         let samples = ones(contacts, n);
         assert_eq!(needed(&program, &samples), MOST_CELLS + 1);
-        three(bench, &program, &samples, LONG)?;
+        four(bench, &program, &samples, LONG)?;
     }
     Ok(())
 }
 
-/// Exactly as many cells as the limit.
+/// Exactly as many cells as the limit; followed from main once to its end, and once for ever.
 fn full_table(bench: &mut Bench) -> Compared {
     for (contacts, others, n) in FULL {
         let program = program_of(contacts, others);
@@ -167,14 +169,17 @@ fn full_table(bench: &mut Bench) -> Compared {
         assert_eq!(needed(&program, &samples), MOST_CELLS);
         let table = garbage(&mut bench.random, MOST_CELLS as usize + 1);
         evaluation::compare(bench, &program, &packed(&samples), table)?;
+        following::compare(bench, &program, &packed(&samples))?;
     }
-    Ok(())
+    let traces = packed(&ones(Contacts::Two, 4_095));
+    following::compare(bench, ITSELF, &traces)
 }
 
-/// Evaluating, recording and checking with a table of so many cells.
-fn three(bench: &mut Bench, program: &[u8], samples: &Samples, cells: usize) -> Compared {
+/// Following, and evaluating, recording and checking with a table of so many cells.
+fn four(bench: &mut Bench, program: &[u8], samples: &Samples, cells: usize) -> Compared {
     let table = garbage(&mut bench.random, cells);
     let traces = packed(samples);
+    following::compare(bench, program, &traces)?;
     evaluation::compare(bench, program, &traces, table.clone())?;
     let mut content = Content {
         program: program.to_vec(),

@@ -3,14 +3,21 @@
 use super::super::generate::rings::Ring;
 use super::super::oracle;
 use super::super::oracle::record::OLDER_RELEASES;
-use super::super::oracle::trace::{Trace, Traces};
-use super::{evaluation, listing, program, record, ring, Bench, Compared};
+use super::super::oracle::trace::{self, Trace, Traces};
+use super::{evaluation, following, listing, program, record, ring, Bench, Compared};
 
 /// A packed trace, and its number of samples.
 type Packed = (&'static [u8], u64);
 
-/// A program tried: bytes, the traces of the ram and of the guard, verdict, passes.
-type Row = (&'static [u8], Packed, Option<Packed>, u8, u32);
+/// A program tried: bytes, the traces of the ram and of the guard, verdict, passes; if it only loops the calls.
+type Row = (
+    &'static [u8],
+    Packed,
+    Option<Packed>,
+    u8,
+    u32,
+    Result<u64, u32>,
+);
 
 const A: &[u8] = &[1, 1, 1, 2, 0, 0x22, 0x10];
 const B: &[u8] = &[1, 1, 1, 2, 0, 0x80, 0x10];
@@ -31,21 +38,27 @@ const PRESS: &[u8] = &[
     0x10, 0x21, 0x11, 0, 0x80, 0x21, 0x10, 0x21, 0x11,
 ];
 
+/// Main calls itself on the tl of its list, and over two contacts on the same lists.
+const TO_THE_END: &[u8] = &[1, 1, 1, 3, 0, 0x80, 0x21, 0x10];
+const GUARD_ITSELF: &[u8] = &[0x81, 2, 3, 2, 3, 0, 0x80, 0x10, 0x11];
+
 const NONE: Packed = (&[], 0);
-const ROWS: [Row; 13] = [
-    (A, (&[5], 3), None, 1, 2),
-    (B, (&[5], 3), None, 0, 1),
-    (C, NONE, None, 3, 2),
-    (D, (&[7], 3), None, 2, 2),
-    (E, NONE, None, 2, 3),
-    (F, NONE, None, 0, 2),
-    (GUARD_NULL, (&[5], 3), Some(NONE), 2, 2),
-    (GUARD_NULL, NONE, Some((&[5], 3)), 1, 2),
-    (EITHER, NONE, Some((&[1], 1)), 2, 2),
-    (EITHER, (&[2], 2), Some((&[1], 1)), 1, 2),
-    (PRESS, (&[6], 4), Some((&[7], 4)), 2, 2),
-    (PRESS, (&[6], 4), Some((&[5], 4)), 1, 2),
-    (PRESS, (&[6], 4), Some((&[1], 1)), 3, 2),
+const ROWS: [Row; 15] = [
+    (A, (&[5], 3), None, 1, 2, Ok(0)),
+    (B, (&[5], 3), None, 0, 1, Ok(4)),
+    (C, NONE, None, 3, 2, Ok(0)),
+    (D, (&[7], 3), None, 2, 2, Ok(3)),
+    (E, NONE, None, 2, 3, Ok(1)),
+    (F, NONE, None, 0, 2, Err(24)),
+    (TO_THE_END, (&[5], 3), None, 4, 2, Ok(3)),
+    (GUARD_NULL, (&[5], 3), Some(NONE), 2, 2, Ok(0)),
+    (GUARD_NULL, NONE, Some((&[5], 3)), 1, 2, Ok(0)),
+    (EITHER, NONE, Some((&[1], 1)), 2, 2, Ok(0)),
+    (EITHER, (&[2], 2), Some((&[1], 1)), 1, 2, Ok(0)),
+    (PRESS, (&[6], 4), Some((&[7], 4)), 2, 2, Ok(4)),
+    (PRESS, (&[6], 4), Some((&[5], 4)), 1, 2, Ok(1)),
+    (PRESS, (&[6], 4), Some((&[1], 1)), 3, 2, Ok(1)),
+    (GUARD_ITSELF, (&[5], 3), Some((&[1], 1)), 0, 1, Ok(8)),
 ];
 
 /// Programs that are refused, and their numbers: those of document 01, those that follow the sort, and the sorts of
@@ -113,6 +126,8 @@ pub fn run(bench: &mut Bench) -> Compared {
         refused(bench, program, number)?;
     }
     cells(bench)?;
+    long_loop(bench)?;
+    call_elsewhere(bench)?;
     sorts(bench)?;
     both_traces(bench)?;
     rings(bench)?;
@@ -143,9 +158,9 @@ fn traces(ram: (&[u8], u64), guard: Option<(&[u8], u64)>) -> Traces {
     }
 }
 
-/// A row that is evaluated.
+/// A row that is evaluated, and followed if it only loops.
 fn tried(bench: &mut Bench, row: Row) -> Compared {
-    let (program, ram, guard, verdict, passes) = row;
+    let (program, ram, guard, verdict, passes, calls) = row;
     let traces = traces(ram, guard);
     let answer = oracle::evaluate(program, &traces, &mut [0; 100]);
     stated(
@@ -153,7 +168,20 @@ fn tried(bench: &mut Bench, row: Row) -> Compared {
         Ok((verdict, passes)),
     )?;
     program::compare(bench, program)?;
-    evaluation::compare(bench, program, &traces, vec![7; 100])
+    evaluation::compare(bench, program, &traces, vec![7; 100])?;
+    followed(bench, program, &traces, calls.map(|calls| (verdict, calls)))
+}
+
+/// What following must answer: the verdict and the calls, or a number.
+fn followed(
+    bench: &mut Bench,
+    program: &[u8],
+    traces: &Traces,
+    answer: Result<(u8, u64), u32>,
+) -> Compared {
+    let followed = oracle::follow(program, traces);
+    stated(followed.map(|it| (it.verdict, it.calls)), answer)?;
+    following::compare(bench, program, traces)
 }
 
 /// A program that is refused.
@@ -162,11 +190,12 @@ fn refused(bench: &mut Bench, bytes: &[u8], number: u32) -> Compared {
     program::compare(bench, bytes)
 }
 
-/// An evaluation and a record that are refused.
+/// Following, an evaluation and a record that are refused.
 fn not_evaluated(bench: &mut Bench, program: &[u8], traces: Traces, number: u32) -> Compared {
     let answer = oracle::evaluate(program, &traces, &mut [9; 16]);
     stated(answer.map(|_| ()), Err(number))?;
     evaluation::compare(bench, program, &traces, vec![9; 16])?;
+    followed(bench, program, &traces, Err(number))?;
     let order = record::Order {
         program: program.to_vec(),
         traces,
@@ -183,6 +212,27 @@ fn cells(bench: &mut Bench) -> Compared {
     stated(few.map(|_| ()), Err(21))?;
     evaluation::compare(bench, A, &traces, vec![9; 3])?;
     evaluation::compare(bench, A, &traces, vec![9; 4])
+}
+
+/// D on no sample, on one and on as many as there can be, all ones: a call for each.
+fn long_loop(bench: &mut Bench) -> Compared {
+    for n in [0, 1, 4_095] {
+        let ones = trace::pack(&vec![true; n]);
+        let traces = traces((&ones, n as u64), None);
+        followed(bench, D, &traces, Ok((2, n as u64)))?;
+    }
+    Ok(())
+}
+
+/// 24 goes before 20, 23 and 21: F, with a function of three lists as well, on such traces.
+fn call_elsewhere(bench: &mut Bench) -> Compared {
+    let zeros = [0; 512];
+    let many = [&[3][..], &F[1..], &[3, 7, 1, 0, 0]].concat();
+    for trace in [(&[5, 0][..], 3), (&[13][..], 3), (&zeros[..], 4_095)] {
+        followed(bench, &many, &traces(trace, None), Err(24))?;
+    }
+    let loops = [&[3][..], &E[1..], &[3, 7, 1, 0, 0]].concat();
+    followed(bench, &loops, &traces((&zeros, 4_095), None), Err(21))
 }
 
 /// Programs with traces of the other sort, and in formats of the other sort.

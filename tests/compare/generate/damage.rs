@@ -26,7 +26,7 @@ pub fn program(random: &mut Random, contacts: Contacts) -> Vec<u8> {
 }
 
 /// The bytes of a draft with so many faults, sometimes damaged further.
-fn finished(random: &mut Random, mut draft: Draft, faults: usize) -> Vec<u8> {
+pub fn finished(random: &mut Random, mut draft: Draft, faults: usize) -> Vec<u8> {
     for _ in 0..faults {
         damage_draft(random, &mut draft);
     }

@@ -49,7 +49,14 @@ impl Part {
 }
 
 impl Draft {
-    fn new(contacts: Contacts, parts: Vec<Part>) -> Self {
+    /// Functions with these kinds and bodies.
+    pub fn new(contacts: Contacts, shapes: &[Shape], bodies: Vec<Vec<u8>>) -> Self {
+        let parts = shapes.iter().zip(bodies);
+        let parts = parts.map(|(shape, body)| part(shape, body)).collect();
+        Draft::of_parts(contacts, parts)
+    }
+
+    fn of_parts(contacts: Contacts, parts: Vec<Part>) -> Self {
         Draft {
             contacts,
             parts,
@@ -152,7 +159,7 @@ fn shapes(random: &mut Random, contacts: Contacts) -> Vec<Shape> {
 }
 
 /// Kinds for one function with at most so many lists among its parameters.
-fn shape(random: &mut Random, contacts: Contacts, mut lists: usize) -> Shape {
+pub fn shape(random: &mut Random, contacts: Contacts, mut lists: usize) -> Shape {
     let count = random.pick(&[0, 1, 1, 1, 1, 2, 2, 2, 3, 3, 4]);
     let mut parameters = Vec::new();
     for _ in 0..count {
@@ -183,7 +190,7 @@ pub fn draft(random: &mut Random, contacts: Contacts) -> Draft {
         room -= body.len();
         parts.push(part(&shapes[own], body));
     }
-    Draft::new(contacts, parts)
+    Draft::of_parts(contacts, parts)
 }
 
 /// A part with the right header.
@@ -197,9 +204,7 @@ fn part(shape: &Shape, body: Vec<u8>) -> Part {
 
 /// The bytes of a program of functions with these kinds and bodies.
 pub fn of_parts(contacts: Contacts, shapes: &[Shape], bodies: Vec<Vec<u8>>) -> Vec<u8> {
-    let parts = shapes.iter().zip(bodies);
-    let parts = parts.map(|(shape, body)| part(shape, body)).collect();
-    Draft::new(contacts, parts).bytes()
+    Draft::new(contacts, shapes, bodies).bytes()
 }
 
 /// A body of at most so many bytes.
@@ -215,6 +220,7 @@ pub fn body(
         shapes,
         own,
         climb,
+        calls: true,
         out: Vec::new(),
     };
     writer.body(most);
@@ -257,6 +263,7 @@ fn rewritten(
         shapes: &shapes,
         own,
         climb: false,
+        calls: true,
         out: Vec::new(),
     };
     write(&mut writer, Demand::Only(shapes[own].result));
@@ -295,7 +302,7 @@ pub fn of_size(contacts: Contacts, size: usize) -> Vec<u8> {
     }
     match size {
         0 => Vec::new(),
-        _ => Draft::new(contacts, parts).bytes(),
+        _ => Draft::of_parts(contacts, parts).bytes(),
     }
 }
 

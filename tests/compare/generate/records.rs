@@ -22,7 +22,7 @@ fn content_over(random: &mut Random, contacts: Contacts, damaged_in: usize) -> C
         program = other_sort(random, samples.contacts());
     }
     if samples.guard.is_some() && random.one_in(60) {
-        samples = traces::most(random);
+        samples = traces::most(random, Contacts::Two);
     }
     if random.one_in(4) {
         verdict = random.below(5) as u8;

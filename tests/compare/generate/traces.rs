@@ -1,8 +1,8 @@
 //! Traces and tables for a program.
 
 use super::super::oracle::program::{self, Contacts};
-use super::super::oracle::search;
 use super::super::oracle::trace::{self, PerContact, Samples, Trace, Traces};
+use super::super::oracle::{search, MOST_CELLS};
 use super::super::random::Random;
 use super::programs;
 
@@ -84,7 +84,13 @@ pub fn fitting(random: &mut Random, program: &[u8]) -> Samples {
         return samples;
     };
     let limits = Limits::any(random, contacts);
-    while heavy(&functions, &samples, &limits) && samples.each().any(|it| !it.is_empty()) {
+    shorten(random, &mut samples, |it| heavy(&functions, it, &limits));
+    samples
+}
+
+/// Drops samples as long as there are too many.
+fn shorten(random: &mut Random, samples: &mut Samples, too_many: impl Fn(&Samples) -> bool) {
+    while too_many(samples) && samples.each().any(|it| !it.is_empty()) {
         let shorter = match &mut samples.guard {
             Some(guard) if !guard.is_empty() && (samples.ram.is_empty() || random.one_in(2)) => {
                 guard
@@ -93,6 +99,29 @@ pub fn fitting(random: &mut Random, program: &[u8]) -> Samples {
         };
         let drop = 1 + shorter.len() / 4;
         shorter.truncate(shorter.len() - drop);
+    }
+}
+
+/// Samples for following a program: mostly few, else as many as more configurations allow, or so many that they exceed the
+/// limit if the program has lists enough.
+pub fn followed(random: &mut Random, program: &[u8]) -> Samples {
+    let contacts = programs::contacts(program);
+    let (allowed, beyond) = match random.below(60) {
+        0 => (400_000, false),
+        1..=10 => (30_000, false),
+        11..=13 => (30_000, true),
+        _ => (600, false),
+    };
+    let counts = counts(random, contacts);
+    let mut samples = match beyond {
+        true => most(random, contacts),
+        false => samples(random, &counts),
+    };
+    if let Ok(functions) = program::check(program) {
+        shorten(random, &mut samples, |it| {
+            let needed = search::cells_needed(&functions, it);
+            needed > allowed && !(beyond && needed > MOST_CELLS)
+        });
     }
     samples
 }
@@ -103,11 +132,11 @@ fn heavy(functions: &[program::Function], samples: &Samples, limits: &Limits) ->
         || search::evaluate(functions, samples).visits > limits.visits
 }
 
-/// The most samples of two contacts, which no program but one of main alone has cells for.
-pub fn most(random: &mut Random) -> Samples {
+/// The most samples of each contact. Of two, no program but one of main alone has cells for them.
+pub fn most(random: &mut Random, contacts: Contacts) -> Samples {
     let counts = PerContact {
         ram: 4_095,
-        guard: Some(4_095),
+        guard: (contacts == Contacts::Two).then_some(4_095),
     };
     samples(random, &counts)
 }
@@ -116,9 +145,14 @@ pub fn most(random: &mut Random) -> Samples {
 pub fn any(random: &mut Random, program: &[u8], damaged_in: usize) -> Traces {
     let mut samples = fitting(random, program);
     if samples.guard.is_some() && random.one_in(60) {
-        samples = most(random);
+        samples = most(random, Contacts::Two);
     }
-    let mut traces = trace::packed(&samples);
+    lent(random, &samples, damaged_in)
+}
+
+/// Lent traces of samples: sometimes damaged, rarely for a program of the other sort.
+pub fn lent(random: &mut Random, samples: &Samples, damaged_in: usize) -> Traces {
+    let mut traces = trace::packed(samples);
     if random.one_in(damaged_in) {
         damage(random, &mut traces);
     }

@@ -101,7 +101,29 @@ pub struct Writer<'a> {
     pub own: usize,
     /// Each function calls the next one in turn, so that many passes are needed.
     pub climb: bool,
+    /// Functions may be called.
+    pub calls: bool,
     pub out: Vec<u8>,
+}
+
+/// An expression without calls for the body of a function, at most so long and so deep.
+pub fn plain(
+    random: &mut Random,
+    shapes: &[Shape],
+    own: usize,
+    demand: Demand,
+    (room, depth): (usize, usize),
+) -> Vec<u8> {
+    let mut writer = Writer {
+        random,
+        shapes,
+        own,
+        climb: false,
+        calls: false,
+        out: Vec::new(),
+    };
+    writer.expression(demand, room, depth);
+    writer.out
 }
 
 impl Writer<'_> {
@@ -183,7 +205,7 @@ impl Writer<'_> {
     fn callees(&self, demand: Demand, room: usize) -> Vec<usize> {
         let fits = |shape: &Shape| demand.allows(shape.result) && shape.parameters.len() < room;
         (0..self.shapes.len())
-            .filter(|callee| fits(&self.shapes[*callee]))
+            .filter(|callee| self.calls && fits(&self.shapes[*callee]))
             .collect()
     }
 

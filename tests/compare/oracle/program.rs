@@ -71,6 +71,8 @@ pub enum Step {
 pub struct Function {
     pub parameters: Vec<Kind>,
     pub result: Kind,
+    /// The body's bytes, and its steps.
+    pub body: Vec<u8>,
     pub steps: Vec<Step>,
 }
 
@@ -270,6 +272,7 @@ fn body(contacts: Contacts, shapes: &[Shape], own: usize) -> Result<Function, u3
     Ok(Function {
         parameters: shapes[own].parameters.clone(),
         result: shapes[own].result,
+        body: shapes[own].body.to_vec(),
         steps: parser.steps,
     })
 }

@@ -1,11 +1,15 @@
 //! What each operation prints: the answer, and every memory that it may write.
 
+use super::super::oracle::follow::Followed;
 use super::super::oracle::program::Contacts;
 use super::super::oracle::search::Evaluation;
 use super::super::oracle::trace::{Trace, Traces};
 use super::super::oracle::{self, listing, program, record, ring};
 use super::fields::{Fields, Memory};
 use super::print;
+
+/// The most configurations for which following is held against a table.
+const MOST_TABLE: u64 = 1 << 20;
 
 /// Runs an operation; nothing if there is none of that name or its fields cannot be read.
 pub fn run(operation: &str, mut fields: Fields) -> Option<String> {
@@ -18,6 +22,8 @@ pub fn run(operation: &str, mut fields: Fields) -> Option<String> {
         "evaluate-two" => evaluate(&mut fields, Contacts::Two),
         "pass" => pass(&mut fields, Contacts::One),
         "pass-two" => pass(&mut fields, Contacts::Two),
+        "follow" => follow(&mut fields, Contacts::One),
+        "follow-two" => follow(&mut fields, Contacts::Two),
         "write" => write(&mut fields, Contacts::One),
         "write-two" => write(&mut fields, Contacts::Two),
         "read" => read(&mut fields),
@@ -140,6 +146,29 @@ fn pass(fields: &mut Fields, contacts: Contacts) -> Option<String> {
     fields.end()?;
     let answer = oracle::make_pass(program.lent(), &traces, table.lent_mut());
     Some(told(answer, |stored| format!(" stored {stored}")) + &cells(&table))
+}
+
+fn follow(fields: &mut Fields, contacts: Contacts) -> Option<String> {
+    let program = fields.bytes()?;
+    let traces = traces(fields, contacts)?;
+    fields.end()?;
+    let answer = oracle::follow(program.lent(), &traces);
+    if let Ok(followed) = &answer {
+        same_by_table(followed, program.lent(), &traces);
+    }
+    Some(told(answer, |followed| {
+        format!(" verdict {} calls {}", followed.verdict, followed.calls)
+    }))
+}
+
+/// Following and a table must come to the same verdict.
+fn same_by_table(followed: &Followed, program: &[u8], traces: &Traces) {
+    if followed.configurations <= MOST_TABLE {
+        let mut table = vec![0; followed.configurations as usize];
+        let evaluation = oracle::evaluate(program, traces, &mut table);
+        let verdict = evaluation.map(|it| it.verdict);
+        assert_eq!(verdict, Ok(followed.verdict));
+    }
 }
 
 fn write(fields: &mut Fields, contacts: Contacts) -> Option<String> {

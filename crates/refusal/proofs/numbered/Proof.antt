@@ -81,7 +81,10 @@ returns-25 : tie.Need-returns-25
 returns-25 c = sym (ap checkOf (c .match .keys25))
 
 returns-26 : tie.Need-returns-26
-returns-26 c = sym (others-passed (c .before .args .number) (c .match .rest))
+returns-26 c = sym (ap checkOf (c .match .keys26))
+
+returns-27 : tie.Need-returns-27
+returns-27 c = sym (others-passed (c .before .args .number) (c .match .rest))
 
 pub numbered-spec : {M : Type 1} → statement M
 numbered-spec =
@@ -112,4 +115,5 @@ numbered-spec =
     returns-23
     returns-24
     returns-25
-    returns-26)
+    returns-26
+    returns-27)

@@ -8,7 +8,7 @@ abbrev Inv-loop : tie.InvT-loop
 Inv-loop line index₀ at table index = Unit {0}
 
 abbrev μ-loop : tie.MeasureT-loop
-μ-loop line index₀ at table index = 16 - index
+μ-loop line index₀ at table index = 18 - index
 
 returns : tie.Need-returns Inv-loop μ-loop
 returns c = tt
