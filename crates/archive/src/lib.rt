@@ -1,4 +1,6 @@
 // Archives: records end to end, walked from the last byte backwards, and the text that lists them.
+#![tactic(auto)]
+
 mod lines;
 
 ghost use Rattle.std.specs.Prelude.{◌≡◌, length, take};
@@ -19,7 +21,7 @@ pub const CELLS: usize = 16384;
 pub const TEXT: usize = 65600;
 
 // What stands last in an archive.
-#[derive(Drop)]
+#[derive(Clone, Copy)]
 pub enum Step {
     End,
     Record(Parts),

@@ -1,6 +1,8 @@
 // The outcome of a body. Its spine is its first node, and after an if the branch chosen. Nodes of the spine are taken with no
 // recursion where an if has its condition beside it, and where the arguments of a call are leaves and its result is no guard list;
 // all else is the evaluator's.
+#![tactic(auto)]
+
 ghost use Rattle.std.specs.Prelude.{◌≡◌, ◌<◌, ◌≤◌};
 ghost use Rattle.syntax.specs.Limits.{most_depth};
 ghost use Rattle.decoding.specs.Words.{sort_of, if_param_sort, call_sort, call_one_sort};

@@ -27,6 +27,8 @@
 // and checks; 'walk' goes from the last record to the first.
 //
 // A line that cannot be read ends the run with 'cannot read line' and its number.
+#![tactic(auto)]
+
 mod answers;
 mod calls;
 mod operations;

@@ -42,7 +42,7 @@ fn operations() -> [u8; 360] {
 
 // What was read of a line: the end of the bytes given, the places of the next of their fields, how many numbers,
 // whether bytes and cells may be written, and the place in the line.
-#[derive(Drop)]
+#[derive(Clone, Copy)]
 struct Fields {
     given: usize,
     parts: usize,

@@ -1,5 +1,7 @@
 // Outcomes as the numbers that stand for them: hd, tl and null of them, and what a cell holds. In a working number a suffix
 // says of which trace it is; in a cell its function's kind does. Every function answers for all numbers.
+#![tactic(auto)]
+
 ghost use Rattle.std.specs.Prelude.{◌≡◌, min};
 ghost use Rattle.codes.specs.{head_of, place_of, has_samples, through_or, tail_of, null_of, decided_code, shifted_code, cell_code, length_of, radix_of, sample_code, least_code, most_code, lowest_code};
 
@@ -32,7 +34,7 @@ pub const RAM_OFFSET: u16 = SUFFIX;
 pub const GUARD_OFFSET: u16 = GUARD_SUFFIX + 8 * TRACE_BYTES as u16;
 
 // The lengths of both traces.
-#[derive(Drop)]
+#[derive(Clone, Copy)]
 pub struct Lengths {
     pub ram: u16,
     pub guard: u16,

@@ -1,5 +1,7 @@
 // How numbers and texts are written: numbers low byte first and in decimal, and texts one after the
 // other in a lent output. Putting is defined for every place; what has no room is not put.
+#![tactic(auto)]
+
 ghost use Rattle.std.specs.Prelude.{◌≡◌, [], ◌∷◌, ◌<◌, ◌≤◌, length, drop};
 ghost use Rattle.encoding.specs.{low_first, from_low, decimal, begins, place_after};
 ghost use Rattle.encoding.specs.{put as encoding_put};

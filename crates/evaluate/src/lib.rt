@@ -1,4 +1,6 @@
 // The verdict of a rule program on its trace or traces, in a table that the caller lends.
+#![tactic(auto)]
+
 mod decide;
 
 ghost use Rattle.std.specs.Prelude.{◌≡◌, [], ◌∷◌, length, ◌≤◌};
@@ -17,14 +19,14 @@ use refusal::{Check, Refusal};
 use semantics::{Sort, Verdict};
 
 // What evaluating answers: the verdict with its pass count, or the refusal.
-#[derive(Drop)]
+#[derive(Clone, Copy)]
 pub enum Evaluated {
     Verdict(Verdict),
     Refused(Refusal),
 }
 
 // What a single pass answers: how many outcomes it stored, or the refusal.
-#[derive(Drop)]
+#[derive(Clone, Copy)]
 pub enum PassMade {
     Stored(usize),
     Refused(Refusal),

@@ -1,5 +1,7 @@
 // The outcome of a decoded expression, with calls looked up in a table. Nodes and functions stand in one lent array, the
 // bytes of both traces and the parameter values in others; an outcome is its working number.
+#![tactic(auto)]
+
 ghost use Rattle.std.specs.Prelude.{◌≡◌, ◌%◌, ◌<◌, slice_index};
 ghost use Rattle.decoding.specs.Words.{param_of};
 ghost use Rattle.evaluator.specs.{digit_bound, most_index, next_index, Digit, lookup_by, working_by, leaf_by, branch_at, call_at, call_one_at, call_leaves_at, eval_word};

@@ -1,5 +1,7 @@
 // The least table that the passes of a program reach. It answers for all arguments: whatever they are, it ends at the latest after
 // one pass more than there can be cells.
+#![tactic(auto)]
+
 ghost use Rattle.std.specs.Prelude.{◌≡◌};
 ghost use Rattle.passes.specs.Mirror.{setup};
 ghost use Rattle.fixpoint.specs.{most_passes, table_from, passes_run};

@@ -1,4 +1,6 @@
 // The verdict of a rule program that only loops, by following its calls from main: with no table.
+#![tactic(auto)]
+
 mod decide;
 mod run;
 
@@ -18,7 +20,7 @@ use rule::Outline;
 use semantics::Sort;
 
 // What following answers: the decision with the calls made, or the refusal.
-#[derive(Drop)]
+#[derive(Clone, Copy)]
 pub enum Following {
     Ended(Followed),
     Refused(Refusal),

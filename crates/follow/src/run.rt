@@ -10,7 +10,7 @@ use decoding::nodes;
 use evaluator::{eval, operand, param};
 
 // What following comes to: the working number of the outcome, undecided where all calls were made, and how many were.
-#[derive(Drop)]
+#[derive(Clone, Copy)]
 pub struct Ran {
     pub outcome: u16,
     pub calls: u64,

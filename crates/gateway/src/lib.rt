@@ -1,5 +1,7 @@
 // The functions that the daemon in C calls, on bytes and numbers alone. include/sikafondza.h declares
 // them for C and is their documentation.
+#![tactic(auto)]
+
 ghost use Rattle.std.specs.Prelude.{◌≡◌, [], ◌∷◌, length, get_or};
 ghost use Rattle.refusal.specs.{check_number, values_left};
 ghost use Rattle.ring.specs.{slots_after, adding, added_answer, taking, taken_answer, output_after};

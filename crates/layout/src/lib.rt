@@ -1,5 +1,7 @@
 // The bytes of a record: how its parts stand in them, whether it is read or written. Every operation answers for all
 // bytes and numbers; a part ends where the bytes do, and a record that there is no room for is not written.
+#![tactic(auto)]
+
 mod formats;
 mod pieces;
 mod trailer;
@@ -36,7 +38,7 @@ pub const GUARD_TRAILER: usize = 10;
 pub const MOST_VERDICT: u8 = 4;
 
 // A format of records: its number, and whether its records have a site label and a guard trace.
-#[derive(Drop)]
+#[derive(Clone, Copy)]
 pub struct Format {
     pub number: u8,
     pub labelled: bool,
@@ -44,21 +46,21 @@ pub struct Format {
 }
 
 // A part of the caller's bytes.
-#[derive(Drop)]
+#[derive(Clone, Copy)]
 pub struct Span {
     pub start: usize,
     pub length: usize,
 }
 
 // The site label of a record: there is none, or its eight bytes stand at a place.
-#[derive(Drop)]
+#[derive(Clone, Copy)]
 pub enum Label {
     Absent,
     At(Span),
 }
 
 // The guard trace of a record: there is none, or its bytes stand at a place, with so many samples.
-#[derive(Drop)]
+#[derive(Clone, Copy)]
 pub enum GuardTrace {
     Absent,
     At(Span, u16),
@@ -66,7 +68,7 @@ pub enum GuardTrace {
 
 // The parts of a record: the number of its format, where they stand in the caller's bytes, and the numbers stored; `trace`
 // and `n` are the ram's. The bytes before the record are those before its program.
-#[derive(Drop)]
+#[derive(Clone, Copy)]
 pub struct Parts {
     pub format: u8,
     pub program: Span,
@@ -79,7 +81,7 @@ pub struct Parts {
 }
 
 // What reading answers.
-#[derive(Drop)]
+#[derive(Clone, Copy)]
 pub enum Reading {
     Record(Parts),
     Refused(Refusal),

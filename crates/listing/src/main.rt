@@ -1,5 +1,7 @@
 // Lists the archive on standard input. A failed read or write is told on standard error, and nothing is listed of
 // an input that could not be read to its end.
+#![tactic(auto)]
+
 ghost use Rattle.listing.specs.{within};
 
 use libc::{STDERR_FILENO, STDIN_FILENO, STDOUT_FILENO};
@@ -8,7 +10,7 @@ use libc::{STDERR_FILENO, STDIN_FILENO, STDOUT_FILENO};
 const ROOM: usize = archive::MOST_ARCHIVE + 1;
 
 // What reading came to: the end of the input or a full buffer, after so many bytes; or a read that failed.
-#[derive(Drop)]
+#[derive(Clone, Copy)]
 enum Input {
     Bytes(usize),
     Failed,

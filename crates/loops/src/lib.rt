@@ -1,6 +1,8 @@
 // Whether a program only loops: each call is a whole body, or a branch of an if that itself is in such a place; 24 of the
 // list. Each body is read once, byte by byte, and one number is kept: how many expressions are due first in which no call
 // may stand.
+#![tactic(auto)]
+
 ghost use Rattle.std.specs.Prelude.{◌≡◌, ◌<◌, ◌≤◌, length};
 ghost use Rattle.syntax.specs.Limits.{most_params};
 ghost use Rattle.loops.specs.{shape_of, loops_from, body_loops, loops_by};
@@ -10,7 +12,7 @@ use syntax::Node;
 
 // What a node asks for: whether it is a call; how many operands it has; and, of a node that is in a place where a call may
 // stand, how many of them, the first ones, are in places where none may.
-#[derive(Drop)]
+#[derive(Clone, Copy)]
 pub struct Shape {
     pub call: bool,
     pub operands: u64,

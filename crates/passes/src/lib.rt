@@ -1,5 +1,7 @@
 // One pass over the table, in arrays. Every function answers for all arguments; what it makes of those that no accepted
 // program gives is said at it.
+#![tactic(auto)]
+
 mod configurations;
 pub mod setup;
 

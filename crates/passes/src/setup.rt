@@ -33,7 +33,7 @@ fn copy(trace: &[u8], at: usize, bytes: &mut [u8])
 
 // The functions of a program: first cells from 0 on, signatures from 32 on, counts from 64 on; and the
 // cells of all.
-#[derive(Drop)]
+#[derive(Clone, Copy)]
 pub struct Cells {
     pub functions: [u64; 96],
     pub total: u64,

@@ -1,4 +1,6 @@
 // What an evaluation begins with: its checks, and where the functions and their cells stand.
+#![tactic(auto)]
+
 ghost use Rattle.std.specs.Prelude.{◌≡◌, ◌||◌, replicate};
 ghost use Rattle.refusal.specs.declared.Check.TheVariants as Check;
 ghost use Rattle.refusal.specs.{◌then◌};
@@ -18,7 +20,7 @@ use semantics::Sort;
 
 // The check of an evaluation, and where the functions and their cells stand. Of a program that is refused the outline is that of
 // no functions; where it or a trace's length is refused there are no cells.
-#[derive(Drop)]
+#[derive(Clone, Copy)]
 pub struct Prepared {
     pub check: Check,
     pub outline: Outline,

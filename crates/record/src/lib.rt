@@ -1,6 +1,8 @@
 // Records: the program, the trace or traces, the verdict and the pass count, and in format 1 a site label, in one string of
 // bytes that is read from its last byte backwards. Every operation answers for all bytes and numbers; a refusal
 // changes nothing that is lent.
+#![tactic(auto)]
+
 ghost use Rattle.std.specs.Prelude.{◌≡◌, ◌∷◌, length};
 ghost use Rattle.refusal.specs.{answer_if};
 ghost use Rattle.semantics.specs.Handed.{handed, one_trace, two_traces};
@@ -21,14 +23,14 @@ use rule::Sorts;
 use semantics::{Sort, Verdict};
 
 // What recording answers: the record's length and the verdict that went into it, or the refusal.
-#[derive(Drop)]
+#[derive(Clone, Copy)]
 pub enum Written {
     Record(usize, Verdict),
     Refused(Refusal),
 }
 
 // What checking answers, with the verdict that it worked out, or the refusal.
-#[derive(Drop)]
+#[derive(Clone, Copy)]
 pub enum Checked {
     Agrees(Verdict),
     Differs(Verdict),
@@ -36,7 +38,7 @@ pub enum Checked {
 }
 
 // What reading and checking answer.
-#[derive(Drop)]
+#[derive(Clone, Copy)]
 pub struct Examined {
     pub reading: Reading,
     pub checked: Checked,

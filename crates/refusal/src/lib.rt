@@ -1,10 +1,12 @@
 // The refusals of 'What is refused' in document 01, and those that document 02 adds. Each case has the number that
 // the document gives it, and no two cases have the same.
+#![tactic(auto)]
+
 ghost use Rattle.std.specs.Prelude.{◌≡◌};
 ghost use Rattle.refusal.specs.{number_of, check_number, check_of};
 
 // What is wrong, in the order of the numbers.
-#[derive(Drop)]
+#[derive(Clone, Copy)]
 pub enum Refusal {
     TrailerMissing,
     MarkOrFormat,
@@ -69,7 +71,7 @@ pub fn number(refusal: Refusal) -> u32
 }
 
 // What judging input comes to: nothing wrong, or the first refusal that applies.
-#[derive(Drop)]
+#[derive(Clone, Copy)]
 pub enum Check {
     Passed,
     Refused(Refusal),

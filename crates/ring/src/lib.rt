@@ -1,6 +1,8 @@
 // The ring of one contact's last samples, over a slice that the caller lends, one byte a sample. The
 // state goes in and comes back by value. Every operation answers for all slices and states; a refusal
 // changes neither the lent bytes nor the state.
+#![tactic(auto)]
+
 ghost use Rattle.std.specs.Prelude.{◌≡◌, ◌≤◌, length, [], ◌∷◌};
 ghost use Rattle.refusal.specs.{check_number, answer_if};
 ghost use Rattle.trace.specs.{bytes_for, packed_into};
@@ -10,21 +12,21 @@ ghost use Rattle.ring.specs.Place.{Sound, Within, place_before};
 use refusal::{Check, Refusal};
 
 // The state of a ring: the place of the next sample, and how many samples are held.
-#[derive(Drop)]
+#[derive(Clone, Copy)]
 pub struct Ring {
     pub next: usize,
     pub count: usize,
 }
 
 // What adding a sample answers. Either way it hands back the state that the ring now has.
-#[derive(Drop)]
+#[derive(Clone, Copy)]
 pub enum Added {
     Stored(Ring),
     Refused(Refusal, Ring),
 }
 
 // What taking a trace answers: the number of samples in it, or the refusal.
-#[derive(Drop)]
+#[derive(Clone, Copy)]
 pub enum Taken {
     Samples(usize),
     Refused(Refusal),

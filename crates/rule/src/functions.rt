@@ -74,7 +74,7 @@ fn no_functions() -> Outline
 }
 
 // What the headers come to: a refusal, or where the functions stand and the place after the last.
-#[derive(Drop)]
+#[derive(Clone, Copy)]
 pub struct Scan {
     pub check: Check,
     pub outline: Outline,

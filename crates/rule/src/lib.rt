@@ -1,5 +1,7 @@
 // Program bytes: which are accepted, what evaluating needs of them, and which number the others get.
 // The check answers for all bytes, and its work is proportional to them.
+#![tactic(auto)]
+
 mod expression;
 mod functions;
 
@@ -13,7 +15,7 @@ use refusal::{Check, Refusal};
 use semantics::Sort;
 
 // Which sorts of programs are taken: both, or one.
-#[derive(Drop)]
+#[derive(Clone, Copy)]
 pub enum Sorts {
     Both,
     Only(Sort),
@@ -21,7 +23,7 @@ pub enum Sorts {
 
 // Where the functions of a program stand: for each its number of parameters, its kinds byte and its guard byte, and the
 // places of its body's first byte and of the byte after it.
-#[derive(Drop)]
+#[derive(Clone, Copy)]
 pub struct Outline {
     pub functions: u8,
     pub params: [u8; 32],
@@ -32,7 +34,7 @@ pub struct Outline {
 }
 
 // What the check of a program comes to; of refused bytes the outline is that of no functions.
-#[derive(Drop)]
+#[derive(Clone, Copy)]
 pub struct Judged {
     pub check: Check,
     pub outline: Outline,

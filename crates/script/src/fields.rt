@@ -5,7 +5,7 @@ use crate::parts::byte_at;
 pub const LOST: usize = usize::MAX;
 
 // A number that was read, and the place after it.
-#[derive(Drop)]
+#[derive(Clone, Copy)]
 pub struct Natural {
     pub value: usize,
     pub at: usize,
@@ -13,7 +13,7 @@ pub struct Natural {
 
 // A memory as far as it is read: the part that is lent, its end, where the last group begins, and the place in
 // the line.
-#[derive(Drop)]
+#[derive(Clone, Copy)]
 pub struct Lent {
     pub from: usize,
     pub to: usize,

@@ -18,7 +18,7 @@ const MOST_RUNS: usize = 400;
 
 // What was printed of a memory: whether it is bytes, the run that is not printed yet, whether the one before it
 // was counted, the runs so far, and the number and the sum of the words beyond the last run that is printed.
-#[derive(Drop)]
+#[derive(Clone, Copy)]
 struct Runs {
     hex: bool,
     value: u16,

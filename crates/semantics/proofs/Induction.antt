@@ -36,18 +36,18 @@ pub record Kept (P : Program) (t : Traces) (A : List Value → Expr → Outcome 
 module _ {P : Program} {t : Traces} {A : List Value → Expr → Outcome → Type 0} {B : List Value → Args → Arguments → Type 0} (k : Kept P t A B) where
   pub derived : {env : List Value} {e : Expr} {o : Outcome} → Derives P t env e o → A env e o
   derived d = elim d as (λ env e o _. A env e o) (λ env xs r _. B env xs r) [
-    | r_constant ↦ k.k-constant
+    | r_constant ↦ k.k_constant
     | r_empty ↦ k.k_empty
-    | r_param h ↦ k.k-param h
-    | r_op (d → ih) ↦ k.k-op ih
-    | r_op_error (d → ih) ↦ k.k-op-error ih
-    | r_then (d → ic) (d' → ia) ↦ k.k-then ic ia
-    | r_else (d → ic) (d' → ib) ↦ k.k-else ic ib
-    | r_if_error (d → ic) ↦ k.k-if-error ic
-    | r_call (d → is) h (d' → ib) ↦ k.k-call is h ib
-    | r_call_error (d → is) ↦ k.k-call-error is
-    | r_none ↦ k.k-none
-    | r_arg (d → ih) (d' → is) ↦ k.k-arg ih is
-    | r_arg_error (d → ih) ↦ k.k-arg-error ih
-    | r_later_error v (d → ih) (d' → is) ↦ k.k-later-error v ih is
+    | r_param h ↦ k.k_param h
+    | r_op (d → ih) ↦ k.k_op ih
+    | r_op_error (d → ih) ↦ k.k_op_error ih
+    | r_then (d → ic) (d' → ia) ↦ k.k_then ic ia
+    | r_else (d → ic) (d' → ib) ↦ k.k_else ic ib
+    | r_if_error (d → ic) ↦ k.k_if_error ic
+    | r_call (d → is) h (d' → ib) ↦ k.k_call is h ib
+    | r_call_error (d → is) ↦ k.k_call_error is
+    | r_none ↦ k.k_none
+    | r_arg (d → ih) (d' → is) ↦ k.k_arg ih is
+    | r_arg_error (d → ih) ↦ k.k_arg_error ih
+    | r_later_error v (d → ih) (d' → is) ↦ k.k_later_error v ih is
   ]

@@ -13,7 +13,7 @@ use lib.ListN.{length, get_elem?, get_or, length-append, get_or-append}
 use Rattle.semantics.specs.declared.Sort.{Sort}
 use Rattle.semantics.specs.declared.Outcome.{Outcome}
 use Rattle.semantics.specs.declared.Outcome.TheVariants.{Truth, Suffix, Failed}
-use Rattle.semantics.specs.Language.{truth, Function, Program, IsMain, Traces, Value, InKinds, whole_traces, only, WellKinded}
+use Rattle.semantics.specs.Language.{truth, Function, Program, IsMain, Traces, no_traces, Value, InKinds, whole_traces, only, WellKinded}
 use Rattle.semantics.specs.Numbering.{cell_of}
 use Rattle.semantics.specs.Cells.{content_of, only_of_kind, outcome_of, outcome_in}
 use Rattle.semantics.specs.Visits.{Table, lookup}
@@ -66,7 +66,7 @@ pub main_said : (P : Program) (t : Traces) (T : Table) (s : Sort) (f : Function)
 unfolding main_decision outcome_in
 main_said P t T s f q m =
     rw (lookup-held P t T 0 (whole_traces s t) f q, m.result, main-cell s t P f q m.params)
-    (ap decision_of (only-truth _ t (outcome_of truth (get_or T (main_cell t P) 0))))
+    (ap decision_of (only-truth no_traces t (outcome_of truth (get_or T (main_cell t P) 0))))
 
 pub decides : (P : Program) (t : Traces) → WellKinded P → (rest : List ℕ) → Decides P t (verdict_of P t) (final_table P t ++ rest)
 unfolding verdict_of

@@ -1,5 +1,7 @@
 // What a rule is over and what it comes to: contacts, sorts of programs and outcomes as enums, the verdict that holds an outcome, and
 // the numbers that stand for them in a cell of the table and in a record.
+#![tactic(auto)]
+
 ghost use Rattle.std.specs.Prelude.{◌≡◌};
 ghost use Rattle.semantics.specs.Cells.{code_of};
 ghost use Rattle.semantics.specs.Verdicts.{verdict_number, main_decision};
@@ -8,28 +10,28 @@ ghost use Rattle.semantics.specs.Verdicts.{verdict_number, main_decision};
 pub const MOST_CELLS: u64 = 16777216;
 
 // The contacts of a press: that of the ram, and that of the guard.
-#[derive(Drop)]
+#[derive(Clone, Copy)]
 pub enum Contact {
     Ram,
     Guard,
 }
 
 // The sorts of programs: over the ram's contact, and over both.
-#[derive(Drop)]
+#[derive(Clone, Copy)]
 pub enum Sort {
     One,
     Two,
 }
 
 // 'head of empty' and 'tail of empty'.
-#[derive(Drop)]
+#[derive(Clone, Copy)]
 pub enum Error {
     Head,
     Tail,
 }
 
 // An outcome: a Bool, a suffix of a contact's trace by its length, or an error with its sort.
-#[derive(Drop)]
+#[derive(Clone, Copy)]
 pub enum Outcome {
     Truth(bool),
     Suffix(Contact, u16),
@@ -37,14 +39,14 @@ pub enum Outcome {
 }
 
 // What evaluating decides: an outcome, or that there is none.
-#[derive(Drop)]
+#[derive(Clone, Copy)]
 pub enum Decision {
     Forever,
     Decided(Outcome),
 }
 
 // A verdict: the decision, and the number of the first pass that changed nothing.
-#[derive(Drop)]
+#[derive(Clone, Copy)]
 pub struct Verdict {
     pub decision: Decision,
     pub passes: u32,

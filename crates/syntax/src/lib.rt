@@ -1,5 +1,7 @@
 // The smallest forms of program bytes: what the function count byte and a header say, which node an expression byte stands for,
 // and kinds as numbers. All are answered for all bytes.
+#![tactic(auto)]
+
 mod headers;
 mod kinds;
 mod nodes;
@@ -24,7 +26,7 @@ pub const MOST_DEPTH: u8 = 64;
 pub const MOST_BYTES: usize = 4096;
 
 // The sorts of nodes that an expression byte can stand for.
-#[derive(Drop)]
+#[derive(Clone, Copy)]
 pub enum Node {
     False,
     True,
@@ -42,7 +44,7 @@ pub enum Node {
 
 // A function's header: the number of parameters, the kinds byte, the guard byte (0 where there is none) and the body
 // length.
-#[derive(Drop)]
+#[derive(Clone, Copy)]
 pub struct Header {
     pub params: u8,
     pub kinds: u8,
@@ -51,7 +53,7 @@ pub struct Header {
 }
 
 // What stands where a header is due.
-#[derive(Drop)]
+#[derive(Clone, Copy)]
 pub enum HeaderRead {
     Found(Header),
     Refused(Refusal),

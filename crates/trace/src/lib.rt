@@ -1,5 +1,7 @@
 // Traces: samples packed into bytes, oldest first, eight to a byte from its lowest bit. Reading and
 // writing one sample is defined for every index; past the bytes nothing is read or written.
+#![tactic(auto)]
+
 ghost use Rattle.std.specs.Prelude.{◌≡◌, ◌<◌};
 ghost use Rattle.trace.specs.{bytes_for, bit_of, sample_at, padding_set, with_bit, with_sample};
 
