@@ -14,6 +14,7 @@ use Rattle.syntax.proofs.headers.guard_fault.Goals as goal
 one_more : (i kinds guard : ℕ) → 0 < i
     → no_list_below i kinds guard ≡ (no_list_below (i - 1) kinds guard || (bit_of (i - 1) guard && not (bit_of (i - 1) kinds)))
 unfolding no_list_below
+one_more zero kinds guard h = elim h [ ]
 one_more (suc i) kinds guard h = rw (sub-one (suc i))
 
 module _ (i kinds guard : ℕ) (more : 0 < i) (so_far : no_list_below i kinds guard ≡ no_list_below 5 kinds guard) where
@@ -42,14 +43,14 @@ pub returns-then-not-bit : goal.returns-then-not-bit
 returns-then-not-bit c = let a = c.args in
     let answer =
     set c.loop-i.i a.kinds a.guard c.loop-i-test.true c.loop-i.invariant.1
-    (rw (← c.bit.ensures, ← c.bit-then-bit.ensures, c.if-bit.true) c.if-not-bit.true) in
+    (rw (← c.bit.ensures, ← c.bit-then-bit.ensures, c.if-bit.true, c.if-not-bit.true)) in
     simp (lt-leb _ _ c.if-guard-ge32.false, answer)
 
 pub loop-i-preserved-else-not-bit : goal.loop-i-preserved-else-not-bit
 loop-i-preserved-else-not-bit c = let a = c.args in (
       omega arith,
       clear c.loop-i.i a.kinds a.guard c.loop-i-test.true c.loop-i.invariant.1
-          (rw (← c.bit.ensures, ← c.bit-then-bit.ensures, c.if-bit.true) c.if-not-bit.false),
+          (rw (← c.bit.ensures, ← c.bit-then-bit.ensures, c.if-bit.true, c.if-not-bit.false)),
     )
 
 pub loop-i-preserved : goal.loop-i-preserved

@@ -21,13 +21,6 @@ unfolding node_of ranged
 others b h0 h1 h2 h3 h4 h5 h6 h7 h8 =
     simp (ne_eqb _ _ h0, ne_eqb _ _ h1, ne_eqb _ _ h2, ne_eqb _ _ h3, ne_eqb _ _ h4, ne_eqb _ _ h5, ne_eqb _ _ h6, ne_eqb _ _ h7, ne_eqb _ _ h8)
 
-rest : (c : tie.At-match-rest) → node_of c.before.args.byte ≡ ranged c.before.args.byte
-rest c =
-    let r = c.match.rest in
-    others _ r.0.0.0.0.0.0.0.0.1 r.0.0.0.0.0.0.0.1 r.0.0.0.0.0.0.1 r.0.0.0.0.0.1 r.0.0.0.0.1
-    r.0.0.0.1
-    r.0.0.1 r.0.1 r.1
-
 in-first : (b : ℕ) → 0x10 ≤ b → b ≤ 0x13 → Param (b - 0x10) ≡ ranged b
 unfolding ranged
 in-first b l h = simp (le-leb _ _ l, le-leb _ _ h)
@@ -100,16 +93,20 @@ unfolding node_of
 returns-in-36 c = sym (ap node_of c.in-36.is)
 
 pub returns-in-16-to-19 : goal.returns-in-16-to-19
-returns-in-16-to-19 c = in-first _ c.if-byte-lt16.false (omega arith) ∙ sym (rest c.before.before)
+returns-in-16-to-19 c =
+    in-first _ (omega arith) (omega arith)
+    ∙ sym (others _ (λ e. omega arith) (λ e. omega arith) (λ e. omega arith) (λ e. omega arith) (λ e. omega arith) (λ e. omega arith) (λ e. omega arith) (λ e. omega arith) (λ e. omega arith))
 
 pub returns-in-128-to-159 : goal.returns-in-128-to-159
-returns-in-128-to-159 c = in-second _ c.if-byte-lt128.false (omega arith) ∙ sym (rest c.before.before.before.before)
+returns-in-128-to-159 c =
+    in-second _ (omega arith) (omega arith)
+    ∙ sym (others _ (λ e. omega arith) (λ e. omega arith) (λ e. omega arith) (λ e. omega arith) (λ e. omega arith) (λ e. omega arith) (λ e. omega arith) (λ e. omega arith) (λ e. omega arith))
 
 pub returns-in_default : goal.returns-in_default
-returns-in_default c = below _ c.in_default.if-byte-lt16-own.true ∙ sym (rest c.before)
+returns-in_default c = below _ (omega arith) ∙ sym (others _ (λ e. omega arith) (λ e. omega arith) (λ e. omega arith) (λ e. omega arith) (λ e. omega arith) (λ e. omega arith) (λ e. omega arith) (λ e. omega arith) (λ e. omega arith))
 
 pub returns-in_default-2 : goal.returns-in_default-2
-returns-in_default-2 c = between _ c.if-byte-lt20.false c.in_default.if-byte-lt128-own.true ∙ sym (rest c.before.before.before)
+returns-in_default-2 c = between _ (omega arith) (omega arith) ∙ sym (others _ (λ e. omega arith) (λ e. omega arith) (λ e. omega arith) (λ e. omega arith) (λ e. omega arith) (λ e. omega arith) (λ e. omega arith) (λ e. omega arith) (λ e. omega arith))
 
 pub returns-in_default-3 : goal.returns-in_default-3
-returns-in_default-3 c = above _ c.in_default.if-byte-lt160-own.false ∙ sym (rest c.before.before.before.before)
+returns-in_default-3 c = above _ (omega arith) ∙ sym (others _ (λ e. omega arith) (λ e. omega arith) (λ e. omega arith) (λ e. omega arith) (λ e. omega arith) (λ e. omega arith) (λ e. omega arith) (λ e. omega arith) (λ e. omega arith))
