@@ -58,7 +58,7 @@ body_means s H F x fit =
     let g = F.own_guard in
     let step : Step F.body (check_at F most_depth (fault_part in_result + demand_for (kind_of k g 4)) 0) (expr_from apart s H (own_of F) most_depth (body_place (kind_at k g 4)) F.body) =
     rw (kind_number_lem k g 4) at (expr_step s H F fit.framed fit.short most_depth (body_place (kind_at k g 4)) 0 (omega arith)) in
-    rw (← fit.body, ← fit.params, ← fit.kinds, ← fit.guard) (end_means F.body _ fit.short _ _ step)
+    rw (← fit.body, ← fit.params, ← fit.kinds, ← fit.guard) (end_means F.body (record { params = F.own_params; kinds = F.own_kinds; guard = F.own_guard; length = x.header.length }) fit.short _ _ step)
 
 -- ---- Functions
 

@@ -183,12 +183,12 @@ told_as_one sorts bs =
 fault-before : {p q : Parsed Program} → Told p q → check_from q ≡ check.Refused WrongKind → (φ : Fault) × (check_from p ≡ check.Refused (apart φ))
 fault-before (read P rest) e = absurd (numbers.refused (sym e))
 fault-before (kind_fault φ) e = (φ, refl)
-fault-before (other f o) e = absurd (o in_result (numbers.refused-same e))
+fault-before (other f o) e = absurd (o in_result (numbers.refused_same e))
 
 fault_now : {p q : Parsed Program} → Told p q → (φ : Fault) → check_from p ≡ check.Refused (apart φ) → check_from q ≡ check.Refused WrongKind
 fault_now (read P rest) φ e = absurd (numbers.refused (sym e))
 fault_now (kind_fault φ') φ e = refl
-fault_now (other f o) φ e = absurd (o φ (numbers.refused-same e))
+fault_now (other f o) φ e = absurd (o φ (numbers.refused_same e))
 
 pub kind_faults : SameFaults
 unfolding program_check

@@ -1,0 +1,14 @@
+-- `scan_headers` meets its contract. Before turn i the arrays hold the outline of the functions before it.
+use mathlib.Core.Path.{sym, ◌∙◌}
+use Prim.Native.Nat.{◌+◌, ◌-◌, ◌≤◌}
+use native.Mathlib.Omega.{arith}
+use lib.ListN.{length}
+use Rattle.syntax.specs.Limits.{most_body}
+use Rattle.rule.proofs.Scanning.{Scanned, scanned_start, scanned_stop, scanned_more, next_fits, scan_refused, scan_passed}
+use Rattle.rule.proofs.functions.scan_headers.Given as goal
+
+abbrev pub invariant-loop-i : goal.invariant-loop-i
+invariant-loop-i l = Scanned l.sort l.program l.count l.params l.kinds l.guards l.starts l.ends l.at l.i
+
+abbrev pub decreases-loop-i : goal.decreases-loop-i
+decreases-loop-i l = l.count - l.i
