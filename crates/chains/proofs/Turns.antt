@@ -50,6 +50,10 @@ module _ (P : Program) (t : Traces) (env : List Value) where
   no_failure xs d d' = let s = derives_all_unique P t xs d d' in let z : ◌≡◌ {A = ℕ} 0 1 = cc in absurd (omega arith)
 
   pub comes_unique : (e : Expr) {g g' : ℕ} {vs vs' : List Value} → Comes P t env e g vs → Comes P t env e g' vs' → (g ≡ g') × (vs ≡ vs')
+  comes_unique (constant _) x _ = elim x [ ]
+  comes_unique (empty _) x _ = elim x [ ]
+  comes_unique (param _) x _ = elim x [ ]
+  comes_unique (op _ _) x _ = elim x [ ]
   comes_unique (call g xs) (in_call d) (in_call d') = let s = derives_all_unique P t xs d d' in (refl, cc)
   comes_unique (ifte c a b) (in_then d k) (in_then d' k') = comes_unique a k k'
   comes_unique (ifte c a b) (in_then d k) (in_else d' k') = not_both d d'
@@ -58,6 +62,10 @@ module _ (P : Program) (t : Traces) (env : List Value) where
 
   pub comes-gives : (e : Expr) {g : ℕ} {vs : List Value} {f : Function} {o : Outcome} → Comes P t env e g vs → get_elem? P g ≡ some f
       → Derives P t vs f.body o → Derives P t env e o
+  comes-gives (constant _) x q b = elim x [ ]
+  comes-gives (empty _) x q b = elim x [ ]
+  comes-gives (param _) x q b = elim x [ ]
+  comes-gives (op _ _) x q b = elim x [ ]
   comes-gives (call g xs) (in_call d) q b = r_call d q b
   comes-gives (ifte c a b) (in_then d k) q o = r_then d (comes-gives a k q o)
   comes-gives (ifte c a b) (in_else d k) q o = r_else d (comes-gives b k q o)

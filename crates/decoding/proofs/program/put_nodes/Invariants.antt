@@ -1,0 +1,11 @@
+-- `put_nodes` meets its contract. Before each turn the places from `at` on have their words and ends.
+use mathlib.Core.Path.{refl}
+use native.Mathlib.Omega.{arith}
+use Rattle.decoding.proofs.Loops.{Swept, swept_start, swept_more, swept_whole}
+use Rattle.decoding.proofs.program.put_nodes.Given as goal
+
+abbrev pub invariant-loop-at : goal.invariant-loop-at
+invariant-loop-at l = Swept l.program l.params l.functions l.initial.words l.initial.at l.ends l.words l.at
+
+abbrev pub decreases-loop-at : goal.decreases-loop-at
+decreases-loop-at l = l.at

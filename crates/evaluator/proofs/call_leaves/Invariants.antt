@@ -1,0 +1,13 @@
+-- `call_leaves` meets its contract. Before each turn the call has gone past i of its arguments.
+use Rattle.std.proofs.Common.{◌≡◌, ◌+◌, ◌-◌, ◌*◌, ◌<◌, sym, ap, ◌∙◌, arith, rules}
+use Rattle.decoding.specs.Words.{callee_of, places_of}
+use Rattle.evaluator.specs.{leaf_by, leaf_at, call_leaves_at}
+use Rattle.evaluator.proofs.EvalWays.{Along, along_start, along_end, along_stop, along_more, not-below, function_at_lem, param_at_lem, args_count, next_index_is, lookup_is}
+use Rattle.evaluator.proofs.call_leaves.Given as goal
+
+abbrev pub invariant-loop-i : goal.invariant-loop-i
+invariant-loop-i l = (l.place ≡ 4096 + 8 * callee_of l.node)
+    × Along l.words l.table.now (leaf_at l.words l.traces l.env) (callee_of l.node) l.count (places_of l.node) l.index l.places l.i
+
+abbrev pub decreases-loop-i : goal.decreases-loop-i
+decreases-loop-i l = l.count - l.i

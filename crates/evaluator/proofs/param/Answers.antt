@@ -1,0 +1,7 @@
+-- `param` meets its contract.
+use Rattle.std.proofs.Common.{ℕ, get_or, ap, rules}
+use Rattle.std.proofs.Common.{rules, ap, not}
+use Rattle.evaluator.proofs.param.Goals as goal
+
+pub returns : goal.returns
+returns c = ap (λ (i : ℕ). get_or c.args.env.now i 0) c.param.ensures
