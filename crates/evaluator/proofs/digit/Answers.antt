@@ -5,4 +5,4 @@ use Rattle.std.proofs.Common.{rules, ap, not}
 use Rattle.evaluator.proofs.digit.Goals as goal
 
 pub returns : goal.returns
-returns c = wraps _ _ _ (omega arith) (omega arith) c.lowest.ensures c.wrapping_sub_u64.ensures
+returns c = wraps _ _ _ (omega arith) (omega arith) c.lowest.ensures c.wrapping_sub_u64.ensures.value

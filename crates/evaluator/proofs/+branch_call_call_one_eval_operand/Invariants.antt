@@ -1,0 +1,30 @@
+-- `eval` and the functions that it calls meet their contracts. A node takes 4 of the measure, which is the depth left.
+use Rattle.std.proofs.Common.{◌≡◌, ℕ, ◌+◌, ◌-◌, ◌*◌, ◌<◌, sym, ap, ◌∙◌, inl, inr, ⊎_elim, arith, rules}
+use Rattle.codes.specs.{shifted_code}
+use Rattle.decoding.specs.Words.{callee_of, places_of}
+use Rattle.evaluator.specs.{sort_by, eval_word, eval_at, branch_at, call_at, call_one_at, call_leaves_at}
+use Rattle.evaluator.proofs.EvalWays.{apart_above, eval_deep, eval_sort, eval_other, branch_true, branch_false, branch_other, Along, along_start, along_end, along_stop, along_more, not-below, function_at_lem, param_at_lem, first_param_at, args_count, working_plain, working_guard, one-stop, one_found, next_index_is, lookup_is}
+use Rattle.evaluator.proofs.+branch_call_call_one_eval_operand.Given as goal
+
+abbrev pub decreases-branch : goal.decreases-branch
+decreases-branch l = l.depth * 4 + 1
+
+abbrev pub decreases-call : goal.decreases-call
+decreases-call l = l.depth * 4 + 2
+
+abbrev pub decreases-call_one : goal.decreases-call_one
+decreases-call_one l = l.depth * 4 + 2
+
+abbrev pub decreases-eval : goal.decreases-eval
+decreases-eval l = l.depth * 4
+
+abbrev pub decreases-operand : goal.decreases-operand
+decreases-operand l = l.depth * 4 + 1
+
+abbrev pub invariant-call-loop-i : goal.invariant-call-loop-i
+invariant-call-loop-i l =
+    (l.place ≡ 4096 + 8 * callee_of l.node)
+    × Along l.words l.table.now (eval_at l.words l.traces l.table.now l.env l.depth) (callee_of l.node) l.count (places_of l.node) l.index l.rest l.i
+
+abbrev pub decreases-call-loop-i : goal.decreases-call-loop-i
+decreases-call-loop-i l = l.count - l.i
