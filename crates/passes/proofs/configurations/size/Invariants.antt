@@ -1,0 +1,10 @@
+-- `size` meets its contract. Before each turn the product is that of the parameters from i on.
+use native.Mathlib.Omega.{arith}
+use Rattle.passes.proofs.SetupLoops.{Product, size-start, size-more, size_fits, size-whole}
+use Rattle.passes.proofs.configurations.size.Given as goal
+
+abbrev pub invariant-loop-i : goal.invariant-loop-i
+invariant-loop-i l = Product l.signature l.n l.count l.product l.i
+
+abbrev pub decreases-loop-i : goal.decreases-loop-i
+decreases-loop-i l = l.i

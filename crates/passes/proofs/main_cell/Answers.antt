@@ -1,0 +1,16 @@
+-- `main_cell` meets its contract: main has at least one configuration.
+use native.Mathlib.Omega.{arith}
+use Rattle.passes.specs.Mirror.{main_cell_of}
+use Rattle.passes.proofs.SetupLoops.{short-shortened, size_nonzero}
+use Rattle.std.proofs.Common.{rules, ap, not}
+use Rattle.passes.proofs.main_cell.Goals as goal
+
+pub size-requires : goal.size-requires
+size-requires c = (omega arith, short-shortened _ c.shortened_lengths.ensures)
+
+pub overflow_sub-result : goal.overflow_sub-result
+overflow_sub-result c = rw c.size.ensures.0 (size_nonzero _ _ _ _)
+
+pub returns : goal.returns
+unfolding main_cell_of
+returns c = rw (c.size.ensures.0, c.shortened_lengths.ensures, c.count-count.ensures.0)
