@@ -1,0 +1,11 @@
+-- `pass_once` meets its contract, as `decide` does, with one pass.
+use native.Mathlib.Omega.{arith}
+use Rattle.evaluate.proofs.Settling.{settled_pass}
+use Rattle.std.proofs.Common.{rules, ap, not}
+use Rattle.evaluate.proofs.decide.pass_once.Goals as goal
+
+pub returns-clause-stored : goal.returns-clause-stored
+returns-clause-stored c = (settled_pass c.requires c.fill.ensures c.traces-of.ensures _ (omega arith) c.pass.ensures).0
+
+pub returns-clause-cells : goal.returns-clause-cells
+returns-clause-cells c = (settled_pass c.requires c.fill.ensures c.traces-of.ensures _ (omega arith) c.pass.ensures).1
