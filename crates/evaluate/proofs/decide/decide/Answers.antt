@@ -11,13 +11,13 @@ pub bounds-table-main_cell : goal.bounds-table-main_cell
 bounds-table-main_cell c = omega (
       arith,
       c.main_cell.ensures,
-      settled_within c.requires c.fill.ensures c.traces-of.ensures _ (omega arith) c.clear.ensures c.run.ensures,
+      settled_within c.requires c.fill.ensures c.traces_of.ensures _ (omega arith) c.clear.ensures (c.run-passes.ensures.cells, c.run-passes.ensures.passes),
     )
 
 pub returns-clause-verdict : goal.returns-clause-verdict
-returns-clause-verdict c = (settled_verdict c.requires c.fill.ensures c.traces-of.ensures _ (omega arith) c.clear.ensures c.run.ensures
+returns-clause-verdict c = (settled_verdict c.requires c.fill.ensures c.traces_of.ensures _ (omega arith) c.clear.ensures (c.run-passes.ensures.cells, c.run-passes.ensures.passes)
     c.main_cell.ensures c.main_decision.ensures).0
 
 pub returns-clause-cells : goal.returns-clause-cells
-returns-clause-cells c = (settled_verdict c.requires c.fill.ensures c.traces-of.ensures _ (omega arith) c.clear.ensures c.run.ensures
+returns-clause-cells c = (settled_verdict c.requires c.fill.ensures c.traces_of.ensures _ (omega arith) c.clear.ensures (c.run-passes.ensures.cells, c.run-passes.ensures.passes)
     c.main_cell.ensures c.main_decision.ensures).1

@@ -5,7 +5,7 @@ use Rattle.std.proofs.Common.{rules, ap, not}
 use Rattle.evaluate.proofs.decide.pass_once.Goals as goal
 
 pub returns-clause-stored : goal.returns-clause-stored
-returns-clause-stored c = (settled_pass c.requires c.fill.ensures c.traces-of.ensures _ (omega arith) c.pass.ensures).0
+returns-clause-stored c = (settled_pass c.requires c.fill.ensures c.traces_of.ensures _ (omega arith) (c.pass.ensures.cells, c.pass.ensures.stored)).0
 
 pub returns-clause-cells : goal.returns-clause-cells
-returns-clause-cells c = (settled_pass c.requires c.fill.ensures c.traces-of.ensures _ (omega arith) c.pass.ensures).1
+returns-clause-cells c = (settled_pass c.requires c.fill.ensures c.traces_of.ensures _ (omega arith) (c.pass.ensures.cells, c.pass.ensures.stored)).1
