@@ -10,164 +10,170 @@ use ring::{Added, Ring, Taken};
 use script::fields::LOST;
 use script::printing::{told, words};
 use semantics::Verdict;
+use std::io;
+use std::io::Write;
 
-fn refused(refusal: Refusal) {
-    told(b" refused", refusal::number(refusal) as usize);
+fn refused<W: Write>(writer: &mut W, refusal: Refusal) -> io::Result<()> {
+    told(writer, b" refused", refusal::number(refusal) as usize)
 }
 
 // The answer of adding a sample, with the state that it hands back.
-pub fn added(answer: Added) {
+pub fn added<W: Write>(writer: &mut W, answer: Added) -> io::Result<()> {
     match answer {
-        Added::Stored(ring) => state(b" stored next", ring),
+        Added::Stored(ring) => state(writer, b" stored next", ring),
         Added::Refused(refusal, ring) => {
-            refused(refusal);
-            state(b" next", ring);
+            refused(writer, refusal)?;
+            state(writer, b" next", ring)
         }
     }
 }
 
-fn state(text: &[u8], ring: Ring) {
-    told(text, ring.next);
-    told(b" count", ring.count);
+fn state<W: Write>(writer: &mut W, text: &[u8], ring: Ring) -> io::Result<()> {
+    told(writer, text, ring.next)?;
+    told(writer, b" count", ring.count)
 }
 
 // The answer of taking a trace.
-pub fn taken(answer: Taken) {
+pub fn taken<W: Write>(writer: &mut W, answer: Taken) -> io::Result<()> {
     match answer {
-        Taken::Samples(n) => told(b" samples", n),
-        Taken::Refused(refusal) => refused(refusal),
+        Taken::Samples(n) => told(writer, b" samples", n),
+        Taken::Refused(refusal) => refused(writer, refusal),
     }
 }
 
 // The answer of checking a program.
-pub fn judged(check: Check) {
+pub fn judged<W: Write>(writer: &mut W, check: Check) -> io::Result<()> {
     match check {
-        Check::Passed => words(b" accepted"),
-        Check::Refused(refusal) => refused(refusal),
+        Check::Passed => words(writer, b" accepted"),
+        Check::Refused(refusal) => refused(writer, refusal),
     }
 }
 
 // The number of a verdict, and its passes.
-fn verdict(text: &[u8], verdict: Verdict) {
+fn verdict<W: Write>(writer: &mut W, text: &[u8], verdict: Verdict) -> io::Result<()> {
     let decision = verdict.decision;
-    told(text, semantics::verdict_number(decision) as usize);
-    told(b" passes", verdict.passes as usize);
+    told(writer, text, semantics::verdict_number(decision) as usize)?;
+    told(writer, b" passes", verdict.passes as usize)
 }
 
 // The answer of evaluating.
-pub fn evaluated(answer: Evaluated) {
+pub fn evaluated<W: Write>(writer: &mut W, answer: Evaluated) -> io::Result<()> {
     match answer {
-        Evaluated::Verdict(found) => verdict(b" verdict", found),
-        Evaluated::Refused(refusal) => refused(refusal),
+        Evaluated::Verdict(found) => verdict(writer, b" verdict", found),
+        Evaluated::Refused(refusal) => refused(writer, refusal),
     }
 }
 
 // The number of a verdict, and the calls made.
-fn ended(found: Followed) {
+fn ended<W: Write>(writer: &mut W, found: Followed) -> io::Result<()> {
     let decision = found.decision;
-    told(b" verdict", semantics::verdict_number(decision) as usize);
-    told(b" calls", found.calls as usize);
+    told(
+        writer,
+        b" verdict",
+        semantics::verdict_number(decision) as usize,
+    )?;
+    told(writer, b" calls", found.calls as usize)
 }
 
 // The answer of following.
-pub fn followed(answer: Following) {
+pub fn followed<W: Write>(writer: &mut W, answer: Following) -> io::Result<()> {
     match answer {
-        Following::Ended(found) => ended(found),
-        Following::Refused(refusal) => refused(refusal),
+        Following::Ended(found) => ended(writer, found),
+        Following::Refused(refusal) => refused(writer, refusal),
     }
 }
 
 // The answer of a single pass.
-pub fn passed(answer: PassMade) {
+pub fn passed<W: Write>(writer: &mut W, answer: PassMade) -> io::Result<()> {
     match answer {
-        PassMade::Stored(outcomes) => told(b" stored", outcomes),
-        PassMade::Refused(refusal) => refused(refusal),
+        PassMade::Stored(outcomes) => told(writer, b" stored", outcomes),
+        PassMade::Refused(refusal) => refused(writer, refusal),
     }
 }
 
 // The answer of recording.
-pub fn written(answer: Written) {
+pub fn written<W: Write>(writer: &mut W, answer: Written) -> io::Result<()> {
     match answer {
         Written::Record(size, found) => {
-            told(b" length", size);
-            verdict(b" verdict", found);
+            told(writer, b" length", size)?;
+            verdict(writer, b" verdict", found)
         }
-        Written::Refused(refusal) => refused(refusal),
+        Written::Refused(refusal) => refused(writer, refusal),
     }
 }
 
 // A part of a record: its start and its length.
-fn place(text: &[u8], span: Span) {
-    told(text, span.start);
-    told(b"", span.length);
+fn place<W: Write>(writer: &mut W, text: &[u8], span: Span) -> io::Result<()> {
+    told(writer, text, span.start)?;
+    told(writer, b"", span.length)
 }
 
-fn parts(parts: Parts) {
+fn parts<W: Write>(writer: &mut W, parts: Parts) -> io::Result<()> {
     let program = parts.program;
     let trace = parts.trace;
     let guard = parts.guard;
     let label = parts.label;
-    told(b" format", parts.format as usize);
-    place(b" program", program);
-    place(b" trace", trace);
-    told(b" n", parts.n as usize);
-    guarded(guard);
-    site(label);
-    told(b" verdict", parts.verdict as usize);
-    told(b" passes", parts.passes as usize);
+    told(writer, b" format", parts.format as usize)?;
+    place(writer, b" program", program)?;
+    place(writer, b" trace", trace)?;
+    told(writer, b" n", parts.n as usize)?;
+    guarded(writer, guard)?;
+    site(writer, label)?;
+    told(writer, b" verdict", parts.verdict as usize)?;
+    told(writer, b" passes", parts.passes as usize)
 }
 
 // The guard trace of a record, if it has one.
-fn guarded(guard: GuardTrace) {
+fn guarded<W: Write>(writer: &mut W, guard: GuardTrace) -> io::Result<()> {
     match guard {
         GuardTrace::At(span, m) => {
-            place(b" guard", span);
-            told(b" m", m as usize);
+            place(writer, b" guard", span)?;
+            told(writer, b" m", m as usize)
         }
-        GuardTrace::Absent => {}
+        GuardTrace::Absent => Ok(()),
     }
 }
 
 // The site label of a record.
-fn site(label: Label) {
+fn site<W: Write>(writer: &mut W, label: Label) -> io::Result<()> {
     match label {
-        Label::At(span) => place(b" label", span),
-        Label::Absent => words(b" no label"),
+        Label::At(span) => place(writer, b" label", span),
+        Label::Absent => words(writer, b" no label"),
     }
 }
 
 // The answer of reading.
-pub fn read(answer: Reading) {
+pub fn read<W: Write>(writer: &mut W, answer: Reading) -> io::Result<()> {
     match answer {
-        Reading::Record(found) => parts(found),
-        Reading::Refused(refusal) => refused(refusal),
+        Reading::Record(found) => parts(writer, found),
+        Reading::Refused(refusal) => refused(writer, refusal),
     }
 }
 
 // The answer of checking a record.
-pub fn checked(answer: Checked) {
+pub fn checked<W: Write>(writer: &mut W, answer: Checked) -> io::Result<()> {
     match answer {
-        Checked::Agrees(found) => verdict(b" agrees verdict", found),
-        Checked::Differs(found) => verdict(b" differs verdict", found),
-        Checked::Refused(refusal) => refused(refusal),
+        Checked::Agrees(found) => verdict(writer, b" agrees verdict", found),
+        Checked::Differs(found) => verdict(writer, b" differs verdict", found),
+        Checked::Refused(refusal) => refused(writer, refusal),
     }
 }
 
 // What a step of a walk finds. Answers how many bytes are before it, LOST where the walk is over.
-pub fn stepped(answer: Step) -> usize {
+pub fn stepped<W: Write>(writer: &mut W, answer: Step) -> io::Result<usize> {
     match answer {
         Step::End => {
-            words(b" end");
-            LOST
+            words(writer, b" end")?;
+            Ok(LOST)
         }
         Step::Record(found) => {
             let program = found.program;
-            parts(found);
-            program.start
+            parts(writer, found)?;
+            Ok(program.start)
         }
         Step::Refused(refusal) => {
-            refused(refusal);
-            LOST
+            refused(writer, refusal)?;
+            Ok(LOST)
         }
     }
 }

@@ -33,31 +33,49 @@ mod answers;
 mod calls;
 mod operations;
 
-use libc::STDIN_FILENO;
+ghost use Rattle.std.specs.Prelude.{◌≤◌, IfOk, length};
+
 use script::printing;
+use std::io;
+use std::io::{Read, Write};
 
 // The longest script.
 const MOST_SCRIPT: usize = 65536;
 
-fn main() {
+fn main(rt: HostRuntime) -> io::Result<()> {
     let mut script = [0u8; MOST_SCRIPT + 1];
-    let size = io::read_full(STDIN_FILENO, &mut script);
+    let size = read_script(&mut rt.stdin(), &mut script)?;
+    let mut output = rt.stdout();
     if MOST_SCRIPT < size {
-        printing::words(b"cannot read more than 65536 bytes\n");
-        return;
+        return printing::words(&mut output, b"cannot read more than 65536 bytes\n");
     }
-    run(&script[..size]);
+    run(&mut output, &script[..size])
+}
+
+// Reads an input until it ends or the buffer is full, and answers how many bytes it read.
+fn read_script<R: Read>(input: &mut R, buffer: &mut [u8]) -> io::Result<usize>
+    ensures { IfOk result (λ size. size ≤ length buffer.new) }
+{
+    let mut size = 0;
+    while size < buffer.len() {
+        let more = input.read(&mut buffer[size..])?;
+        if more == 0 {
+            return Ok(size);
+        }
+        size += more;
+    }
+    Ok(size)
 }
 
 // Runs the cases line by line, as far as they can be read.
-fn run(script: &[u8]) {
+fn run<W: Write>(writer: &mut W, script: &[u8]) -> io::Result<()> {
     let mut start: usize = 0;
     let mut number: usize = 1;
     let mut i: usize = 0;
     while i < script.len() {
         if script[i] == b'\n' {
-            if !operations::line(&script[start..i]) {
-                return unread(number);
+            if !operations::line(writer, &script[start..i])? {
+                return unread(writer, number);
             }
             start = i + 1;
             number += 1;
@@ -65,11 +83,12 @@ fn run(script: &[u8]) {
         i += 1;
     }
     if start < i {
-        unread(number);
+        unread(writer, number)?;
     }
+    Ok(())
 }
 
-fn unread(number: usize) {
-    printing::told(b"cannot read line", number);
-    printing::words(b"\n");
+fn unread<W: Write>(writer: &mut W, number: usize) -> io::Result<()> {
+    printing::told(writer, b"cannot read line", number)?;
+    printing::words(writer, b"\n")
 }

@@ -2,6 +2,8 @@
 use crate::calls;
 use script::fields::Lent;
 use script::{fields, parts, printing};
+use std::io;
+use std::io::Write;
 
 // The bytes that are read in a case, the bytes and the cells that may be written.
 const GIVEN: usize = 40000;
@@ -65,12 +67,12 @@ pub const WRITTEN_AT: usize = 9;
 pub const CELLS_AT: usize = 12;
 
 // Runs a line; false where it cannot be read.
-pub fn line(line: &[u8]) -> bool {
+pub fn line<W: Write>(writer: &mut W, line: &[u8]) -> io::Result<bool> {
     if line.len() == 0 {
-        return true;
+        return Ok(true);
     }
     if line[0] == b'#' {
-        return true;
+        return Ok(true);
     }
     let mut index: usize = 0;
     let at = fields::after_space(line, fields::after_name(line));
@@ -79,15 +81,15 @@ pub fn line(line: &[u8]) -> bool {
         let start = index * WIDTH;
         let place = fields::after_word(line, at, parts::bytes(&table, start, start + SHAPE));
         if place != fields::LOST {
-            return case(line, place, index);
+            return case(writer, line, place, index);
         }
         index += 1;
     }
-    false
+    Ok(false)
 }
 
 // Runs an operation on the fields at a place of a line.
-fn case(line: &[u8], at: usize, index: usize) -> bool {
+fn case<W: Write>(writer: &mut W, line: &[u8], at: usize, index: usize) -> io::Result<bool> {
     let mut given = [0u8; GIVEN];
     let mut written = [0u8; WRITTEN];
     let mut cells = [0u16; CELLS];
@@ -104,33 +106,49 @@ fn case(line: &[u8], at: usize, index: usize) -> bool {
         &mut numbers,
     );
     if read.at != line.len() {
-        return false;
+        return Ok(false);
     }
-    printing::words(parts::bytes(line, 0, fields::after_name(line)));
-    calls::perform(index, &given, &mut written, &mut cells, &places, &numbers);
-    show(read, &written, &cells, &places);
-    true
+    printing::words(writer, parts::bytes(line, 0, fields::after_name(line)))?;
+    calls::perform(
+        writer,
+        index,
+        &given,
+        &mut written,
+        &mut cells,
+        &places,
+        &numbers,
+    )?;
+    show(writer, read, &written, &cells, &places)?;
+    Ok(true)
 }
 
 // Prints the memories that may have been written.
-fn show(read: Fields, written: &[u8; WRITTEN], cells: &[u16; CELLS], places: &[usize; PLACES]) {
+fn show<W: Write>(
+    writer: &mut W,
+    read: Fields,
+    written: &[u8; WRITTEN],
+    cells: &[u16; CELLS],
+    places: &[usize; PLACES],
+) -> io::Result<()> {
     if read.cells {
         printing::cells(
+            writer,
             cells,
             places[CELLS_AT],
             places[CELLS_AT + 1],
             places[CELLS_AT + 2],
-        );
+        )?;
     }
     if read.bytes {
         printing::bytes(
+            writer,
             written,
             places[WRITTEN_AT],
             places[WRITTEN_AT + 1],
             places[WRITTEN_AT + 2],
-        );
+        )?;
     }
-    printing::words(b"\n");
+    printing::words(writer, b"\n")
 }
 
 // Reads the fields of an operation.

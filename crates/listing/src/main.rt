@@ -4,7 +4,8 @@
 
 ghost use Rattle.listing.specs.{within};
 
-use libc::{STDERR_FILENO, STDIN_FILENO, STDOUT_FILENO};
+use std::io;
+use std::io::{Read, Write};
 
 // An archive that is too long to be listed is known by its first byte too many.
 const ROOM: usize = archive::MOST_ARCHIVE + 1;
@@ -16,26 +17,28 @@ enum Input {
     Failed,
 }
 
-fn main() {
+fn main(rt: HostRuntime) {
     let mut archive = [0u8; ROOM];
-    match read_archive(&mut archive) {
-        Input::Bytes(n) => list(&archive[..n]),
-        Input::Failed => tell(b"listing: standard input cannot be read\n"),
+    match read_archive(&mut rt.stdin(), &mut archive) {
+        Input::Bytes(n) => {
+            if list(&mut rt.stdout(), &archive[..n]).is_err() {
+                tell(rt, b"listing: standard output cannot be written\n");
+            }
+        }
+        Input::Failed => tell(rt, b"listing: standard input cannot be read\n"),
     }
 }
 
-// Reads standard input until it ends, the buffer is full or a read fails. A read that a signal interrupts is one that
+// Reads an input until it ends, the buffer is full or a read fails. A read that a signal interrupts is one that
 // failed.
-fn read_archive(buffer: &mut [u8]) -> Input
+fn read_archive<R: Read>(input: &mut R, buffer: &mut [u8]) -> Input
     ensures { within result buffer.new }
 {
     let mut done = 0;
     while done < buffer.len() {
-        let got = libc::read(STDIN_FILENO, &mut buffer[done..]);
-        if got < 0 {
+        let Ok(more) = input.read(&mut buffer[done..]) else {
             return Input::Failed;
-        }
-        let more = io::count(got, &buffer[done..]);
+        };
         if more == 0 {
             return Input::Bytes(done);
         }
@@ -44,16 +47,14 @@ fn read_archive(buffer: &mut [u8]) -> Input
     Input::Bytes(done)
 }
 
-// Writes the listing of an archive to standard output.
-fn list(archive: &[u8]) {
-    let mut out = [0u8; archive::TEXT];
-    let size = archive::list(archive, &mut out);
-    if !io::write_all(STDOUT_FILENO, &out[..size]) {
-        tell(b"listing: standard output cannot be written\n");
-    }
+// Writes the listing of an archive.
+fn list<W: Write>(output: &mut W, archive: &[u8]) -> io::Result<()> {
+    let mut text = [0u8; archive::TEXT];
+    let size = archive::list(archive, &mut text);
+    output.write_all(&text[..size])
 }
 
 // Writes a line to standard error. Where that fails too, there is nobody to tell.
-fn tell(line: &[u8]) {
-    io::write_all(STDERR_FILENO, line);
+fn tell(rt: HostRuntime, line: &[u8]) {
+    let _ = rt.stderr().write_all(line);
 }

@@ -1,16 +1,16 @@
-// Words, numbers and memories on standard output.
+// Words, numbers and memories, printed to a writer. A write that fails ends the printing.
 use crate::parts;
-use libc::STDOUT_FILENO;
+use std::io;
+use std::io::Write;
 
-pub fn words(text: &[u8]) {
-    io::write_all(STDOUT_FILENO, text);
+pub fn words<W: Write>(writer: &mut W, text: &[u8]) -> io::Result<()> {
+    writer.write_all(text)
 }
 
 // Some words, and a number after a space.
-pub fn told(text: &[u8], n: usize) {
-    words(text);
-    words(b" ");
-    io::print_decimal(STDOUT_FILENO, n as u64);
+pub fn told<W: Write>(writer: &mut W, text: &[u8], n: usize) -> io::Result<()> {
+    words(writer, text)?;
+    write!(writer, " {n}")
 }
 
 // The runs of equal words that are printed one by one.
@@ -42,46 +42,45 @@ fn no_runs(hex: bool) -> Runs {
 }
 
 // Goes on by one word. The sum tells two sequences apart: 31 times what it was plus the word, mod 65,521.
-fn word(state: Runs, value: u16) -> Runs {
+fn word<W: Write>(writer: &mut W, state: Runs, value: u16) -> io::Result<Runs> {
     let mut next = state;
     if state.value == value {
         if 0 < state.count {
-            next.count = std::num::wrapping_add_usize(state.count, 1);
-            return next;
+            next.count = state.count.wrapping_add(1);
+            return Ok(next);
         }
     }
     if 0 < state.count {
-        next = run(state);
+        next = run(writer, state)?;
     }
     if next.runs == MOST_RUNS {
-        next.more = std::num::wrapping_add_usize(next.more, 1);
+        next.more = next.more.wrapping_add(1);
         next.sum = ((next.sum % 65521) * 31 + (value as usize)) % 65521;
-        return next;
+        return Ok(next);
     }
     next.value = value;
     next.count = 1;
-    next
+    Ok(next)
 }
 
 // Prints a run: four bytes and two cells are counted. Bytes that are not counted stand next to each other.
-fn run(state: Runs) -> Runs {
+fn run<W: Write>(writer: &mut W, state: Runs) -> io::Result<Runs> {
     let least: usize = if state.hex { 4 } else { 2 };
     let counted = least <= state.count;
     if separate(state, counted) {
-        words(b"+");
+        words(writer, b"+")?;
     }
-    one(state.hex, state.value);
+    one(writer, state.hex, state.value)?;
     if counted {
-        words(b"*");
-        io::print_decimal(STDOUT_FILENO, state.count as u64);
+        write!(writer, "*{}", state.count)?;
     } else {
-        others(state);
+        others(writer, state)?;
     }
     let mut next = state;
     next.count = 0;
     next.counted = counted;
-    next.runs = std::num::wrapping_add_usize(state.runs, 1);
-    next
+    next.runs = state.runs.wrapping_add(1);
+    Ok(next)
 }
 
 // Whether a '+' stands before a run.
@@ -99,77 +98,91 @@ fn separate(state: Runs, counted: bool) -> bool {
 }
 
 // The second and the third byte of a run.
-fn others(state: Runs) {
+fn others<W: Write>(writer: &mut W, state: Runs) -> io::Result<()> {
     if 1 < state.count {
-        one(state.hex, state.value);
+        one(writer, state.hex, state.value)?;
     }
     if 2 < state.count {
-        one(state.hex, state.value);
+        one(writer, state.hex, state.value)?;
     }
+    Ok(())
 }
 
-fn one(hex: bool, value: u16) {
+fn one<W: Write>(writer: &mut W, hex: bool, value: u16) -> io::Result<()> {
     if hex {
         let figures = *b"0123456789ABCDEF";
         let high = figures[(value / 16 % 16) as usize];
         let low = figures[(value % 16) as usize];
-        words(&[high, low]);
+        words(writer, &[high, low])
     } else {
-        io::print_decimal(STDOUT_FILENO, value as u64);
+        write!(writer, "{value}")
     }
 }
 
 // Prints what is left: the last run, or how many words follow and their sum.
-fn last(state: Runs) {
+fn last<W: Write>(writer: &mut W, state: Runs) -> io::Result<()> {
     if 0 < state.count {
-        run(state);
+        run(writer, state)?;
     }
     if 0 < state.more {
-        told(b"+..", state.more);
-        told(b" more, sum", state.sum);
+        told(writer, b"+..", state.more)?;
+        told(writer, b" more, sum", state.sum)?;
     }
+    Ok(())
 }
 
-fn byte_runs(content: &[u8]) {
+fn byte_runs<W: Write>(writer: &mut W, content: &[u8]) -> io::Result<()> {
     let mut state = no_runs(true);
     let mut i: usize = 0;
     while i < content.len() {
-        state = word(state, wide(content[i]));
+        state = word(writer, state, wide(content[i]))?;
         i += 1;
     }
-    last(state);
+    last(writer, state)
 }
 
 fn wide(byte: u8) -> u16 {
     byte as u16
 }
 
-fn cell_runs(content: &[u16]) {
+fn cell_runs<W: Write>(writer: &mut W, content: &[u16]) -> io::Result<()> {
     let mut state = no_runs(false);
     let mut i: usize = 0;
     while i < content.len() {
-        state = word(state, content[i]);
+        state = word(writer, state, content[i])?;
         i += 1;
     }
-    last(state);
+    last(writer, state)
 }
 
 // A memory of so many bytes, with brackets around the lent part.
-pub fn bytes(memory: &[u8], from: usize, to: usize, size: usize) {
-    words(b", bytes ");
-    byte_runs(parts::bytes(memory, 0, from));
-    words(b"[");
-    byte_runs(parts::bytes(memory, from, to));
-    words(b"]");
-    byte_runs(parts::bytes(memory, to, size));
+pub fn bytes<W: Write>(
+    writer: &mut W,
+    memory: &[u8],
+    from: usize,
+    to: usize,
+    size: usize,
+) -> io::Result<()> {
+    words(writer, b", bytes ")?;
+    byte_runs(writer, parts::bytes(memory, 0, from))?;
+    words(writer, b"[")?;
+    byte_runs(writer, parts::bytes(memory, from, to))?;
+    words(writer, b"]")?;
+    byte_runs(writer, parts::bytes(memory, to, size))
 }
 
 // The same for cells.
-pub fn cells(memory: &[u16], from: usize, to: usize, size: usize) {
-    words(b", cells ");
-    cell_runs(parts::cells(memory, 0, from));
-    words(b"[");
-    cell_runs(parts::cells(memory, from, to));
-    words(b"]");
-    cell_runs(parts::cells(memory, to, size));
+pub fn cells<W: Write>(
+    writer: &mut W,
+    memory: &[u16],
+    from: usize,
+    to: usize,
+    size: usize,
+) -> io::Result<()> {
+    words(writer, b", cells ")?;
+    cell_runs(writer, parts::cells(memory, 0, from))?;
+    words(writer, b"[")?;
+    cell_runs(writer, parts::cells(memory, from, to))?;
+    words(writer, b"]")?;
+    cell_runs(writer, parts::cells(memory, to, size))
 }
