@@ -193,22 +193,44 @@ module _ (program ram : List ℕ) (n : ℕ) (guard : List ℕ) (m : ℕ) (v : Ve
       pub no_space-two : length out < length program + (length ram + length guard + result_bytes) + 10 → out ≡ filled program (traces Two) v out
       no_space-two h = no_space program (traces Two) v out (packings Two) (small Two) (rw (← sized-two) h)
 
-      module _ (ram-bytes : AreBytes ram) {o₁ o₂ o₃ o₄ text last : List ℕ} {p₁ p₂ p₃ p₄ : ℕ} (first : Put 0 program out p₁ o₁)
-          (second : Put p₁ ram o₁ p₂ o₂) (result : text ≡ number ∷ low_first 4 v.passes) where
-        pub written-one : length program + (length ram + result_bytes) + least_trailer ≤ length out → Put p₂ text o₂ p₃ o₃
+      module _ (ram-bytes : AreBytes ram) {o o' o'' last-out text last : List ℕ} {p p' p'' last-place : ℕ} (first : Put 0 program out p o)
+          (second : Put p ram o p' o') (e : text ≡ number ∷ low_first 4 v.passes) where
+        pub written-one : length program + (length ram + result_bytes) + least_trailer ≤ length out → Put p' text o' p'' o''
             → last
             ≡ low_first 2 (length program + (length ram + result_bytes))
             ++ (low_first 2 (length ram + result_bytes) ++ (low_first 2 n ++ (format2.number ∷ mark ∷ [])))
-            → Put p₃ last o₃ p₄ o₄ → o₄ ≡ filled program (traces One) v out
-        written-one room third e fourth =
+            → Put p'' last o'' last-place last-out → last-out ≡ filled program (traces One) v out
+        written-one room third f fourth =
             let whole = layout (contents One) in
-            let ending = trailer format2 (contents One) in
+            let result = verdict_number v.decision ∷ low_first 4 v.passes in
             let same = packing_same ram n r ram-bytes in
-            let at-start : Left out 0 whole out 0 (program ++ (pack (samples ram n) ++ ((verdict_number v.decision ∷ low_first 4 v.passes) ++ ending))) =
+            let begun : Left out 0 whole out 0 (program ++ (pack (samples ram n) ++ (result ++ trailer format2 (contents One)))) =
             subst (λ (l : List ℕ). Left out 0 whole out 0 l) (layout-one program ram n guard m v)
             (left_front out whole (omega (arith, sized-one))) in
-            let at-ram = left-put program at-start first in
-            let at-result = left-put (pack (samples ram n)) at-ram (rw same at second) in
-            let at-trailer = left-put (verdict_number v.decision ∷ low_first 4 v.passes) at-result (rw (result, told) at third) in
-            let is-last = e ∙ trailer-one program ram n guard m v (packing_size ram n r) in
-            put_whole program (traces One) v out (packings One) (small One) (left_end at-trailer (rw is-last at fourth)).1
+            let to-ram = left-put program begun first in
+            let to-result = left-put (pack (samples ram n)) to-ram (rw same at second) in
+            let to-trailer = left-put result to-result (rw (e, told) at third) in
+            let text-last = f ∙ trailer-one program ram n guard m v (packing_size ram n r) in
+            put_whole program (traces One) v out (packings One) (small One) (left_end to-trailer (rw text-last at fourth)).1
+
+        pub written-two : AreBytes guard → length program + (length ram + length guard + result_bytes) + 10 ≤ length out
+            → {p₃ : ℕ} {o₃ : List ℕ} → Put p' guard o' p'' o'' → Put p'' text o'' p₃ o₃
+            → last
+            ≡ low_first 2 (length program + (length ram + length guard + result_bytes))
+            ++ (low_first 2 (length ram + length guard + result_bytes) ++ (low_first 2 n ++ (low_first 2 m ++ (format3.number ∷ mark ∷ []))))
+            → Put p₃ last o₃ last-place last-out → last-out ≡ filled program (traces Two) v out
+        unfolding layout_in recorded
+        written-two guard-bytes room third fourth f fifth =
+            let whole = layout (contents Two) in
+            let result = verdict_number v.decision ∷ low_first 4 v.passes in
+            let same = packing_same ram n r ram-bytes in
+            let same-guard = packing_same guard m g guard-bytes in
+            let begun : Left out 0 whole out 0
+              (program ++ (pack (samples ram n) ++ (pack (samples guard m) ++ (result ++ trailer format3 (contents Two))))) =
+            left_front out whole (omega (arith, sized-two)) in
+            let to-ram = left-put program begun first in
+            let to-guard = left-put (pack (samples ram n)) to-ram (rw same at second) in
+            let to-result = left-put (pack (samples guard m)) to-guard (rw same-guard at third) in
+            let to-trailer = left-put result to-result (rw (e, told) at fourth) in
+            let text-last = f ∙ trailer-two program ram n guard m v (packing_size ram n r) (packing_size guard m g) in
+            put_whole program (traces Two) v out (packings Two) (small Two) (left_end to-trailer (rw text-last at fifth)).1
