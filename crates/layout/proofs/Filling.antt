@@ -226,7 +226,7 @@ module _ (program ram : List ℕ) (n : ℕ) (guard : List ℕ) (m : ℕ) (v : Ve
             let same = packing_same ram n r ram-bytes in
             let same-guard = packing_same guard m g guard-bytes in
             let begun : Left out 0 whole out 0
-              (program ++ (pack (samples ram n) ++ (pack (samples guard m) ++ (result ++ trailer format3 (contents Two))))) =
+            (program ++ (pack (samples ram n) ++ (pack (samples guard m) ++ (result ++ trailer format3 (contents Two))))) =
             left_front out whole (omega (arith, sized-two)) in
             let to-ram = left-put program begun first in
             let to-guard = left-put (pack (samples ram n)) to-ram (rw same at second) in

@@ -23,22 +23,22 @@ pub overflow_add-first : goal.overflow_add-first
 overflow_add-first c =
     record {
       fits =
-        omega (
-          arith,
-          packing_few _ c.args.n (sym c.is_packing.ensures ∙ c.if-not-is_packing.false) (omega (arith, c.ranges.n)),
-          c.well_formed.0.1,
-        );
+          omega (
+            arith,
+            packing_few _ c.args.n (sym c.is_packing.ensures ∙ c.if-not-is_packing.false) (omega (arith, c.ranges.n)),
+            c.well_formed.0.1,
+          );
     }
 
 pub overflow_add-first-in-One : goal.overflow_add-first-in-One
 overflow_add-first-in-One c =
     record {
       fits =
-        omega (
-          arith,
-          packing_few _ c.args.n (sym c.is_packing.ensures ∙ c.if-not-is_packing.false) (omega (arith, c.ranges.n)),
-          c.well_formed.0.1,
-        );
+          omega (
+            arith,
+            packing_few _ c.args.n (sym c.is_packing.ensures ∙ c.if-not-is_packing.false) (omega (arith, c.ranges.n)),
+            c.well_formed.0.1,
+          );
     }
 
 pub returns-then-out-first : goal.returns-then-out-first
@@ -64,35 +64,35 @@ pub overflow_add-second-in-Two-2 : goal.overflow_add-second-in-Two-2
 overflow_add-second-in-Two-2 c =
     record {
       fits =
-        omega (
-          arith,
-          packing_few _ c.args.n (sym c.is_packing.ensures ∙ c.if-not-is_packing.false) (omega (arith, c.ranges.n)),
-          packing_few _ c.args.m (sym c.is_packing-2.ensures ∙ c.if-not-is_packing-2.false) (omega (arith, c.ranges.m)),
-        );
+          omega (
+            arith,
+            packing_few _ c.args.n (sym c.is_packing.ensures ∙ c.if-not-is_packing.false) (omega (arith, c.ranges.n)),
+            packing_few _ c.args.m (sym c.is_packing-2.ensures ∙ c.if-not-is_packing-2.false) (omega (arith, c.ranges.m)),
+          );
     }
 
 pub overflow_add-first-in-Two : goal.overflow_add-first-in-Two
 overflow_add-first-in-Two c =
     record {
       fits =
-        omega (
-          arith,
-          packing_few _ c.args.n (sym c.is_packing.ensures ∙ c.if-not-is_packing.false) (omega (arith, c.ranges.n)),
-          packing_few _ c.args.m (sym c.is_packing-2.ensures ∙ c.if-not-is_packing-2.false) (omega (arith, c.ranges.m)),
-          c.well_formed.0.1,
-        );
+          omega (
+            arith,
+            packing_few _ c.args.n (sym c.is_packing.ensures ∙ c.if-not-is_packing.false) (omega (arith, c.ranges.n)),
+            packing_few _ c.args.m (sym c.is_packing-2.ensures ∙ c.if-not-is_packing-2.false) (omega (arith, c.ranges.m)),
+            c.well_formed.0.1,
+          );
     }
 
 pub overflow_add-first-in-Two-2 : goal.overflow_add-first-in-Two-2
 overflow_add-first-in-Two-2 c =
     record {
       fits =
-        omega (
-          arith,
-          packing_few _ c.args.n (sym c.is_packing.ensures ∙ c.if-not-is_packing.false) (omega (arith, c.ranges.n)),
-          packing_few _ c.args.m (sym c.is_packing-2.ensures ∙ c.if-not-is_packing-2.false) (omega (arith, c.ranges.m)),
-          c.well_formed.0.1,
-        );
+          omega (
+            arith,
+            packing_few _ c.args.n (sym c.is_packing.ensures ∙ c.if-not-is_packing.false) (omega (arith, c.ranges.n)),
+            packing_few _ c.args.m (sym c.is_packing-2.ensures ∙ c.if-not-is_packing-2.false) (omega (arith, c.ranges.m)),
+            c.well_formed.0.1,
+          );
     }
 
 pub returns-then-out-first-2 : goal.returns-then-out-first-2

@@ -1,10 +1,8 @@
 -- `locate` meets its contract: 1 and 2, then 3 of the trailer's fields, then what stands before it.
-use mathlib.Core.Path.{◌≡◌, sym, ap, ◌∙◌}
+use mathlib.Core.Path.{sym, ap, ◌∙◌}
 use Prim.Native.Nat.{ℕ, ◌-◌}
 use native.Mathlib.Omega.{arith}
 use lib.ListN.{length}
-use borrow.Author.Tests.{not-true, not-false}
-use Rattle.layout.specs.Form.{trailer_bytes}
 use Rattle.layout.specs.Trailer.{mark_in, format_in}
 use Rattle.layout.proofs.FormatLaws.{least_trailer_lem}
 use Rattle.layout.proofs.Locating.{missing, wrong_mark, unknown, cut, faulty, distances, sound}

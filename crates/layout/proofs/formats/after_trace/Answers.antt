@@ -1,7 +1,6 @@
 -- `after_trace` meets its contract.
 use borrow.Author.Tests.{not-true, not-false}
 use Rattle.layout.specs.Form.{label_size}
-use Rattle.std.proofs.Common.{rules, ap, not}
 use Rattle.layout.proofs.formats.after_trace.Goals as goal
 
 pub returns-then-not-format : goal.returns-then-not-format

@@ -2,7 +2,6 @@
 use mathlib.Core.Bool.{or-false}
 use borrow.Author.Tests.{eq-eqb, ne_eqb}
 use Rattle.layout.specs.Form.{knows}
-use Rattle.std.proofs.Common.{rules, ap, not}
 use Rattle.layout.proofs.formats.knows.Goals as goal
 
 pub returns-then-number-eq-FORMAT_3 : goal.returns-then-number-eq-FORMAT_3

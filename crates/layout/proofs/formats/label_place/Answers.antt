@@ -1,7 +1,6 @@
 -- `label_place` meets its contract.
 use borrow.Author.Tests.{not-true, not-false}
 use Rattle.layout.specs.Trailer.{label_place}
-use Rattle.std.proofs.Common.{rules, ap, not}
 use Rattle.layout.proofs.formats.label_place.Goals as goal
 
 pub returns-then-not-format : goal.returns-then-not-format

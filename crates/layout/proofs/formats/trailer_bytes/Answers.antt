@@ -1,6 +1,5 @@
 -- `trailer_bytes` meets its contract.
 use Rattle.layout.specs.Form.{trailer_bytes}
-use Rattle.std.proofs.Common.{rules, ap, not}
 use Rattle.layout.proofs.formats.trailer_bytes.Goals as goal
 
 pub returns-then-format : goal.returns-then-format

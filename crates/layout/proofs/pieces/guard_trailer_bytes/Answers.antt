@@ -2,7 +2,6 @@
 use mathlib.Core.Path.{◌∙◌}
 use Rattle.encoding.specs.{low_first}
 use Rattle.layout.proofs.Filling.{low_bits}
-use Rattle.std.proofs.Common.{rules, ap, not}
 use Rattle.layout.proofs.pieces.guard_trailer_bytes.Goals as goal
 
 pub returns : goal.returns

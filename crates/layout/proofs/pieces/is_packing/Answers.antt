@@ -2,7 +2,6 @@
 use mathlib.Core.Path.{sym}
 use borrow.Author.Tests.{eq-eqb, ne_eqb}
 use Rattle.layout.specs.Filling.{is_packing}
-use Rattle.std.proofs.Common.{rules, ap, not}
 use Rattle.layout.proofs.pieces.is_packing.Goals as goal
 
 pub returns-then-bytes-bytes_for : goal.returns-then-bytes-bytes_for

@@ -1,6 +1,5 @@
 -- `verdict_bytes` meets its contract.
 use Rattle.encoding.specs.{low_first}
-use Rattle.std.proofs.Common.{rules, ap, not}
 use Rattle.layout.proofs.pieces.verdict_bytes.Goals as goal
 
 pub returns : goal.returns

@@ -8,22 +8,22 @@ pub overflow_add-bytes_for : goal.overflow_add-bytes_for
 overflow_add-bytes_for c =
     record {
       fits =
-        omega (
-          arith,
-          bytes_few _ c.if-n-gt-MOST_SAMPLES.false c.bytes_for.ensures,
-          bytes_few _ c.if-m-gt-MOST_SAMPLES.false c.bytes_for-2.ensures,
-        );
+          omega (
+            arith,
+            bytes_few _ c.if-n-gt-MOST_SAMPLES.false c.bytes_for.ensures,
+            bytes_few _ c.if-m-gt-MOST_SAMPLES.false c.bytes_for-2.ensures,
+          );
     }
 
 pub overflow_add-bytes_for-2 : goal.overflow_add-bytes_for-2
 overflow_add-bytes_for-2 c =
     record {
       fits =
-        omega (
-          arith,
-          bytes_few _ c.if-n-gt-MOST_SAMPLES.false c.bytes_for.ensures,
-          bytes_few _ c.if-m-gt-MOST_SAMPLES.false c.bytes_for-2.ensures,
-          c.after_trace.ensures,
-          label-few c.args.format,
-        );
+          omega (
+            arith,
+            bytes_few _ c.if-n-gt-MOST_SAMPLES.false c.bytes_for.ensures,
+            bytes_few _ c.if-m-gt-MOST_SAMPLES.false c.bytes_for-2.ensures,
+            c.after_trace.ensures,
+            label-few c.args.format,
+          );
     }

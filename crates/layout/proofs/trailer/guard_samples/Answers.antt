@@ -3,7 +3,6 @@ use mathlib.Core.Path.{◌∙◌}
 use native.Mathlib.Omega.{arith}
 use Rattle.layout.specs.Form.{trailer_bytes}
 use Rattle.layout.specs.Steps.{guard_count_at}
-use Rattle.std.proofs.Common.{rules, ap, not}
 use Rattle.layout.proofs.trailer.guard_samples.Goals as goal
 
 pub sixteen-requires : goal.sixteen-requires

@@ -1,7 +1,6 @@
 -- `sixteen` meets its contract.
 use mathlib.Core.Path.{◌∙◌}
 use Rattle.layout.proofs.Locating.{two_at}
-use Rattle.std.proofs.Common.{rules, ap, not}
 use Rattle.layout.proofs.trailer.sixteen.Goals as goal
 
 pub returns : goal.returns

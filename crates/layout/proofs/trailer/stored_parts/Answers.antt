@@ -54,7 +54,7 @@ unfolding parts_stored
 returns-then-verdict-gt-MOST_VERDICT c =
     simp (
       clean c.args.bytes.now (c.args.at - c.args.second) c.args.n c.args.m c.bytes_for.ensures c.bytes_for-2.ensures c.bytes_for-3.ensures
-      c.padding_in-padding_set.ensures c.padding_in-guard_padding_set.ensures c.if-padding_set.false c.if-guard_padding_set.false,
+          c.padding_in-padding_set.ensures c.padding_in-guard_padding_set.ensures c.if-padding_set.false c.if-guard_padding_set.false,
       lt-ltb _ _ c.if-verdict-gt-MOST_VERDICT.true,
     )
 
@@ -63,7 +63,7 @@ unfolding parts_stored
 returns-then-passes-eq0 c =
     simp (
       clean c.args.bytes.now (c.args.at - c.args.second) c.args.n c.args.m c.bytes_for.ensures c.bytes_for-2.ensures c.bytes_for-3.ensures
-      c.padding_in-padding_set.ensures c.padding_in-guard_padding_set.ensures c.if-padding_set.false c.if-guard_padding_set.false,
+          c.padding_in-padding_set.ensures c.padding_in-guard_padding_set.ensures c.if-padding_set.false c.if-guard_padding_set.false,
       le-ltb _ _ c.if-verdict-gt-MOST_VERDICT.false,
       sym c.thirty_two-passes.ensures,
       eq-eqb _ _ c.if-passes-eq0.true,
@@ -74,7 +74,7 @@ unfolding parts_stored
 returns c =
     simp (
       clean c.args.bytes.now (c.args.at - c.args.second) c.args.n c.args.m c.bytes_for.ensures c.bytes_for-2.ensures c.bytes_for-3.ensures
-      c.padding_in-padding_set.ensures c.padding_in-guard_padding_set.ensures c.if-padding_set.false c.if-guard_padding_set.false,
+          c.padding_in-padding_set.ensures c.padding_in-guard_padding_set.ensures c.if-padding_set.false c.if-guard_padding_set.false,
       le-ltb _ _ c.if-verdict-gt-MOST_VERDICT.false,
       sym c.thirty_two-passes.ensures,
       ne_eqb _ _ c.if-passes-eq0.false,

@@ -1,7 +1,6 @@
 -- `thirty_two` meets its contract.
 use mathlib.Core.Path.{◌∙◌}
 use Rattle.layout.proofs.Locating.{four_at}
-use Rattle.std.proofs.Common.{rules, ap, not}
 use Rattle.layout.proofs.trailer.thirty_two.Goals as goal
 
 pub returns : goal.returns
