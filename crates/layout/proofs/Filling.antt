@@ -1,7 +1,7 @@
 -- Laws of writing a record part after part:
 --   packed-size, none_packed                the bytes of n samples, and of none
 --   is_packing_lem, packing_size,
---   packing_same                            bytes that are a packing: their number, and that they are it
+--   packing_few, packing_same               bytes that are a packing: their number, and that they are it
 --   low_bits                                two bytes of a number, by its low 16 bits
 --   trailer-one, trailer-two                the trailer of what is recorded
 --   length-layout, size-one, size-two       how long a record is, and what is recorded
@@ -9,7 +9,9 @@
 --   no_packing, no_verdict, no_space,
 --   put_whole                               an output, by what was tested and put
 --   filled-begins                           an output that is filled begins with the record
-use mathlib.Core.Path.{◌≡◌, refl, sym, ap, ◌∙◌}
+--   too_high, no_space-one, no_space-two    where the traces are packings: a verdict above 4, an output with no room
+--   written-one, written-two                and one that the parts were put to, one after the other
+use mathlib.Core.Path.{◌≡◌, refl, sym, ap, subst, ◌∙◌}
 use mathlib.Core.Bool.{true, false, not}
 use mathlib.Core.List.{List, [], ◌∷◌, ◌++◌}
 use Prim.Native.Nat.{ℕ, ◌+◌, ◌*◌, ◌/◌, ◌%◌, ◌<◌, ◌≤◌}
@@ -24,12 +26,13 @@ use Rattle.trace.proofs.Padding.{clean_packed}
 use Rattle.rule.specs.Form.{AreBytes}
 use Rattle.rule.proofs.Tests.{both}
 use Rattle.semantics.specs.declared.Verdict.{Verdict}
+use Rattle.semantics.specs.declared.Sort.{Sort}
 use Rattle.semantics.specs.declared.Sort.TheVariants.{One, Two}
 use Rattle.semantics.specs.Handed.{Handed, handed}
 use Rattle.semantics.specs.Verdicts.{verdict_number}
-use Rattle.encoding.specs.{low_first, begins, put}
+use Rattle.encoding.specs.{low_first, begins, put, place_after}
 use Rattle.encoding.proofs.Low.{length_low, low_two}
-use Rattle.encoding.proofs.Putting.{no_room, front_put}
+use Rattle.encoding.proofs.Putting.{Left, no_room, front_put, left-put, left_end, left_front}
 use Rattle.layout.specs.declared.Format.{Format}
 use Rattle.layout.specs.Form.{format2, format3, Contents, format_of, mark, least_trailer, trailer_bytes, result_bytes, label_size, guard_part, guard_count, trailer, label_part, layout_in, layout, most_verdict}
 use Rattle.layout.specs.Filling.{recorded, is_packing, are_packings, filled}
@@ -57,6 +60,11 @@ module _ (trace : List ℕ) (n : ℕ) where
 
     pub packing_size : length trace ≡ bytes_for n
     packing_size = eqb-true (length trace) (bytes_for n) tests.0
+
+    -- n / 8 rounded up, for any n of 16 bits
+    pub packing_few : n < 65536 → length trace ≤ 8192
+    unfolding bytes_for
+    packing_few h = omega (arith, packing_size)
 
     pub packing_same : AreBytes trace → trace ≡ pack (samples trace n)
     packing_same are = clean_packed trace n are packing_size (not-true (padding_set trace n) tests.1)
@@ -142,3 +150,87 @@ module _ (program : List ℕ) (h : Handed) (v : Verdict) (out : List ℕ) where
 
       pub filled-begins : length (layout c) ≤ length out → filled program h v out ≡ begins (layout c) out
       filled-begins l = sym whole-filled ∙ front_put (layout c) out l
+
+-- ---- A record written part after part
+
+-- what an answer of put tells: the place after a text put at a place of an output, and the output then
+abbrev Put : ℕ → List ℕ → List ℕ → ℕ → List ℕ → Type 0
+Put at text out at' out' = (at' ≡ place_after at text out) × (out' ≡ put at text out)
+
+-- both traces are packings
+module _ (program ram : List ℕ) (n : ℕ) (guard : List ℕ) (m : ℕ) (v : Verdict) (out : List ℕ) (r : is_packing ram n ≡ true)
+    (g : is_packing guard m ≡ true) where
+  abbrev traces : Sort → Handed
+  traces sort = handed sort ram n guard m
+
+  abbrev contents : Sort → Contents
+  contents sort = recorded program (traces sort) v
+
+  packings : (sort : Sort) → are_packings (traces sort) ≡ true
+  packings sort = rw (r, g)
+
+  module _ {number : ℕ} (told : number ≡ verdict_number v.decision) where
+    pub too_high : (sort : Sort) → most_verdict < number → out ≡ filled program (traces sort) v out
+    unfolding recorded
+    too_high sort h = no_verdict program (traces sort) v out (packings sort) (rw (← told) h)
+
+    module _ (low : number ≤ most_verdict) where
+      small : (sort : Sort) → (contents sort).verdict ≤ most_verdict
+      unfolding recorded
+      small sort = rw (← told) low
+
+      -- its length
+      sized-one : length program + (length ram + result_bytes) + least_trailer ≡ length (layout (contents One))
+      sized-one = omega (arith, size-one program ram n guard m v (packing_size ram n r))
+
+      sized-two : length program + (length ram + length guard + result_bytes) + 10 ≡ length (layout (contents Two))
+      unfolding trailer_bytes
+      sized-two = omega (arith, size-two program ram n guard m v (packing_size ram n r) (packing_size guard m g))
+
+      pub no_space-one : length out < length program + (length ram + result_bytes) + least_trailer → out ≡ filled program (traces One) v out
+      no_space-one h = no_space program (traces One) v out (packings One) (small One) (rw (← sized-one) h)
+
+      pub no_space-two : length out < length program + (length ram + length guard + result_bytes) + 10 → out ≡ filled program (traces Two) v out
+      no_space-two h = no_space program (traces Two) v out (packings Two) (small Two) (rw (← sized-two) h)
+
+      module _ (ram-bytes : AreBytes ram) {o o' o'' last-out text last : List ℕ} {p p' p'' last-place : ℕ} (first : Put 0 program out p o)
+          (second : Put p ram o p' o') (e : text ≡ number ∷ low_first 4 v.passes) where
+        pub written-one : length program + (length ram + result_bytes) + least_trailer ≤ length out → Put p' text o' p'' o''
+            → last
+            ≡ low_first 2 (length program + (length ram + result_bytes))
+            ++ (low_first 2 (length ram + result_bytes) ++ (low_first 2 n ++ (format2.number ∷ mark ∷ [])))
+            → Put p'' last o'' last-place last-out → last-out ≡ filled program (traces One) v out
+        written-one room third f fourth =
+            let whole = layout (contents One) in
+            let result = verdict_number v.decision ∷ low_first 4 v.passes in
+            let same = packing_same ram n r ram-bytes in
+            let begun : Left out 0 whole out 0 (program ++ (pack (samples ram n) ++ (result ++ trailer format2 (contents One)))) =
+            subst (λ (l : List ℕ). Left out 0 whole out 0 l) (layout-one program ram n guard m v)
+            (left_front out whole (omega (arith, sized-one))) in
+            let to-ram = left-put program begun first in
+            let to-result = left-put (pack (samples ram n)) to-ram (rw same at second) in
+            let to-trailer = left-put result to-result (rw (e, told) at third) in
+            let text-last = f ∙ trailer-one program ram n guard m v (packing_size ram n r) in
+            put_whole program (traces One) v out (packings One) (small One) (left_end to-trailer (rw text-last at fourth)).1
+
+        pub written-two : AreBytes guard → length program + (length ram + length guard + result_bytes) + 10 ≤ length out
+            → {p₃ : ℕ} {o₃ : List ℕ} → Put p' guard o' p'' o'' → Put p'' text o'' p₃ o₃
+            → last
+            ≡ low_first 2 (length program + (length ram + length guard + result_bytes))
+            ++ (low_first 2 (length ram + length guard + result_bytes) ++ (low_first 2 n ++ (low_first 2 m ++ (format3.number ∷ mark ∷ []))))
+            → Put p₃ last o₃ last-place last-out → last-out ≡ filled program (traces Two) v out
+        unfolding layout_in recorded
+        written-two guard-bytes room third fourth f fifth =
+            let whole = layout (contents Two) in
+            let result = verdict_number v.decision ∷ low_first 4 v.passes in
+            let same = packing_same ram n r ram-bytes in
+            let same-guard = packing_same guard m g guard-bytes in
+            let begun : Left out 0 whole out 0
+            (program ++ (pack (samples ram n) ++ (pack (samples guard m) ++ (result ++ trailer format3 (contents Two))))) =
+            left_front out whole (omega (arith, sized-two)) in
+            let to-ram = left-put program begun first in
+            let to-guard = left-put (pack (samples ram n)) to-ram (rw same at second) in
+            let to-result = left-put (pack (samples guard m)) to-guard (rw same-guard at third) in
+            let to-trailer = left-put result to-result (rw (e, told) at fourth) in
+            let text-last = f ∙ trailer-two program ram n guard m v (packing_size ram n r) (packing_size guard m g) in
+            put_whole program (traces Two) v out (packings Two) (small Two) (left_end to-trailer (rw text-last at fifth)).1

@@ -6,9 +6,8 @@ use native.Mathlib.Omega.{arith}
 use lib.ListN.{length, take, drop, length-drop, drop_of_length-le}
 use lib.Seq.{take_all}
 use Rattle.layout.specs.Trailer.{part_of, span}
-use borrow.Author.Rules.{rules}
-use Rattle.layout.proofs.part.Statement.{statement}
-use Rattle.layout.proofs.part.Tie as tie
+use Rattle.std.proofs.Common.{ap}
+use Rattle.layout.proofs.part.Goals as goal
 
 module _ (bytes : List ℕ) (start size : ℕ) where
   past : length bytes < start → take (length bytes - length bytes) (drop (length bytes) bytes) ≡ part_of bytes (span start size)
@@ -28,59 +27,11 @@ module _ (bytes : List ℕ) (start size : ℕ) where
   unfolding part_of
   whole = let e : start + size - start ≡ size = omega arith in ap (λ (k : ℕ). take k (drop start bytes)) e
 
-sub-result : tie.Need-overflow-sub-result
-sub-result c = search rules
+pub returns-then-len-start : goal.returns-then-len-start
+returns-then-len-start c = past _ _ _ c.if-len-start.true
 
-part-result-start : tie.Need-slice-bounds-result-start
-part-result-start c = search rules
+pub returns-then-len-start-2 : goal.returns-then-len-start-2
+returns-then-len-start-2 c = cut _ _ _ c.if-len-start-2.true
 
-part-result-end : tie.Need-slice-bounds-result-end
-part-result-end c = search rules
-
-returns : tie.Need-returns
-returns c = past _ _ _ c.before.if1.true
-
-sub-result-2 : tie.Need-overflow-sub-result-2
-sub-result-2 c = search rules
-
-part-result-start-2 : tie.Need-slice-bounds-result-start-2
-part-result-start-2 c = search rules
-
-part-result-end-2 : tie.Need-slice-bounds-result-end-2
-part-result-end-2 c = search rules
-
-returns-2 : tie.Need-returns-2
-returns-2 c = cut _ _ _ c.before.if2.true
-
-add-end : tie.Need-overflow-add-end
-add-end c = search rules
-
-sub-result-3 : tie.Need-overflow-sub-result-3
-sub-result-3 c = search rules
-
-part-result-start-3 : tie.Need-slice-bounds-result-start-3
-part-result-start-3 c = search rules
-
-part-result-end-3 : tie.Need-slice-bounds-result-end-3
-part-result-end-3 c = search rules
-
-returns-3 : tie.Need-returns-3
-returns-3 c = whole _ _ _
-
-pub part-spec : {M : Type 1} → statement M
-part-spec =
-    tie.close
-    (tie.spec
-    sub-result
-    part-result-start
-    part-result-end
-    returns
-    sub-result-2
-    part-result-start-2
-    part-result-end-2
-    returns-2
-    add-end
-    sub-result-3
-    part-result-start-3
-    part-result-end-3
-    returns-3)
+pub returns : goal.returns
+returns c = whole _ _ _
