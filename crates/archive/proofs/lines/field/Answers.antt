@@ -1,0 +1,16 @@
+-- `field` meets its contract: the number is put, and then the space that is left.
+use Rattle.encoding.specs.{decimal}
+use Rattle.archive.specs.Listing.{field}
+use Rattle.encoding.proofs.Putting.{left-start, left-put, left_end}
+use Rattle.std.proofs.Common.{rules, ap, not}
+use Rattle.archive.proofs.lines.field.Goals as goal
+
+pub returns-clause-place : goal.returns-clause-place
+returns-clause-place c = (let all = left-start c.args.out.now c.args.at (field (decimal c.args.n)) c.requires in
+    let last = left-put (decimal c.args.n) all (c.put_decimal-a.ensures.place, c.put_decimal-a.ensures.output) in
+    left_end last (c.put.ensures.place, c.put.ensures.output)).0
+
+pub returns-clause-output : goal.returns-clause-output
+returns-clause-output c = (let all = left-start c.args.out.now c.args.at (field (decimal c.args.n)) c.requires in
+    let last = left-put (decimal c.args.n) all (c.put_decimal-a.ensures.place, c.put_decimal-a.ensures.output) in
+    left_end last (c.put.ensures.place, c.put.ensures.output)).1
