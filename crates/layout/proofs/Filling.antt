@@ -12,12 +12,12 @@
 --   too_high, no_space-one, no_space-two    where the traces are packings: a verdict above 4, an output with no room
 --   written-one, written-two                and one that the parts were put to, one after the other
 use mathlib.Core.Path.{◌≡◌, refl, sym, ap, subst, ◌∙◌}
-use mathlib.Core.Bool.{true, false, not}
+use mathlib.Core.Bool.{Bool, true, false, cond, not, ◌&&◌}
 use mathlib.Core.List.{List, [], ◌∷◌, ◌++◌}
 use Prim.Native.Nat.{ℕ, ◌+◌, ◌*◌, ◌/◌, ◌%◌, ◌<◌, ◌≤◌}
 use native.Mathlib.Omega.{arith}
 use lib.Arith.{mod-mul}
-use lib.Dec.{eqb}
+use lib.Dec.{eqb, leb}
 use lib.ListN.{length, length-append}
 use borrow.Author.Tests.{le-leb, lt-leb, eq-eqb, eqb-true, not-true}
 use Rattle.trace.specs.{bytes_for, samples, packed, pack, padding_set}
@@ -132,6 +132,14 @@ module _ (program : List ℕ) (h : Handed) (v : Verdict) (out : List ℕ) where
   unfolding filled
   no_packing e = rw e
 
+  pub no_space : length out < length (layout c) → out ≡ filled program h v out
+  unfolding filled
+  no_space l = go (are_packings h && leb c.verdict most_verdict)
+    where
+      go : (b : Bool) → out ≡ cond b (put 0 (layout c) out) out
+      go true = (no_room 0 (layout c) out (omega arith)).1
+      go false = refl
+
   module _ (p : are_packings h ≡ true) where
     pub no_verdict : most_verdict < c.verdict → out ≡ filled program h v out
     unfolding filled
@@ -141,9 +149,6 @@ module _ (program : List ℕ) (h : Handed) (v : Verdict) (out : List ℕ) where
       whole-filled : put 0 (layout c) out ≡ filled program h v out
       unfolding filled
       whole-filled = rw (p, le-leb c.verdict most_verdict small)
-
-      pub no_space : length out < length (layout c) → out ≡ filled program h v out
-      no_space l = (no_room 0 (layout c) out (omega arith)).1 ∙ whole-filled
 
       pub put_whole : {out' : List ℕ} → out' ≡ put 0 (layout c) out → out' ≡ filled program h v out
       put_whole e = e ∙ whole-filled
@@ -169,6 +174,20 @@ module _ (program ram : List ℕ) (n : ℕ) (guard : List ℕ) (m : ℕ) (v : Ve
   packings : (sort : Sort) → are_packings (traces sort) ≡ true
   packings sort = rw (r, g)
 
+  -- the length of a record, and an output that is shorter
+  sized-one : length program + (length ram + result_bytes) + least_trailer ≡ length (layout (contents One))
+  sized-one = omega (arith, size-one program ram n guard m v (packing_size ram n r))
+
+  sized-two : length program + (length ram + length guard + result_bytes) + 10 ≡ length (layout (contents Two))
+  unfolding trailer_bytes
+  sized-two = omega (arith, size-two program ram n guard m v (packing_size ram n r) (packing_size guard m g))
+
+  pub no_space-one : length out < length program + (length ram + result_bytes) + least_trailer → out ≡ filled program (traces One) v out
+  no_space-one h = no_space program (traces One) v out (rw (← sized-one) h)
+
+  pub no_space-two : length out < length program + (length ram + length guard + result_bytes) + 10 → out ≡ filled program (traces Two) v out
+  no_space-two h = no_space program (traces Two) v out (rw (← sized-two) h)
+
   module _ {number : ℕ} (told : number ≡ verdict_number v.decision) where
     pub too_high : (sort : Sort) → most_verdict < number → out ≡ filled program (traces sort) v out
     unfolding recorded
@@ -178,20 +197,6 @@ module _ (program ram : List ℕ) (n : ℕ) (guard : List ℕ) (m : ℕ) (v : Ve
       small : (sort : Sort) → (contents sort).verdict ≤ most_verdict
       unfolding recorded
       small sort = rw (← told) low
-
-      -- its length
-      sized-one : length program + (length ram + result_bytes) + least_trailer ≡ length (layout (contents One))
-      sized-one = omega (arith, size-one program ram n guard m v (packing_size ram n r))
-
-      sized-two : length program + (length ram + length guard + result_bytes) + 10 ≡ length (layout (contents Two))
-      unfolding trailer_bytes
-      sized-two = omega (arith, size-two program ram n guard m v (packing_size ram n r) (packing_size guard m g))
-
-      pub no_space-one : length out < length program + (length ram + result_bytes) + least_trailer → out ≡ filled program (traces One) v out
-      no_space-one h = no_space program (traces One) v out (packings One) (small One) (rw (← sized-one) h)
-
-      pub no_space-two : length out < length program + (length ram + length guard + result_bytes) + 10 → out ≡ filled program (traces Two) v out
-      no_space-two h = no_space program (traces Two) v out (packings Two) (small Two) (rw (← sized-two) h)
 
       module _ (ram-bytes : AreBytes ram) {o o' o'' last-out text last : List ℕ} {p p' p'' last-place : ℕ} (first : Put 0 program out p o)
           (second : Put p ram o p' o') (e : text ≡ number ∷ low_first 4 v.passes) where

@@ -7,6 +7,7 @@ ghost use Rattle.layout.specs.Trailer.{label_place, guard_place};
 use crate::{Format, GuardTrace, Label, Span};
 
 // Whether a format byte is that of a format that is read.
+#[tactic(auto, unfolding(crate::specs::Form::knows))]
 pub fn knows(number: u8) -> bool
     ensures { result ≡ form_knows formats number }
 {

@@ -15,7 +15,7 @@ returns-then-not-is_packing-2 c =
 pub returns-then-number : goal.returns-then-number
 returns-then-number c =
     too_high _ _ _ _ _ _ _ (sym c.is_packing.ensures ∙ c.if-not-is_packing.false) (sym c.is_packing-2.ensures ∙ c.if-not-is_packing-2.false)
-    c.verdict_number-number.ensures _ c.if-number.true
+    c.verdict_number-number.ensures _ (omega arith)
 
 -- ---- With one trace
 
@@ -45,7 +45,7 @@ pub returns-then-out-first : goal.returns-then-out-first
 returns-then-out-first c =
     rw c.in-One.is
     (no_space-one _ _ _ _ _ _ _ (sym c.is_packing.ensures ∙ c.if-not-is_packing.false) (sym c.is_packing-2.ensures ∙ c.if-not-is_packing-2.false)
-    c.verdict_number-number.ensures c.if-number.false c.if-out-first.true)
+    (omega arith))
 
 pub returns-else-out-first : goal.returns-else-out-first
 returns-else-out-first c =
@@ -55,8 +55,8 @@ returns-else-out-first c =
     let fourth = c.put.ensures in
     rw c.in-One.is
     (written-one _ _ _ _ _ _ _ (sym c.is_packing.ensures ∙ c.if-not-is_packing.false) (sym c.is_packing-2.ensures ∙ c.if-not-is_packing-2.false)
-    c.verdict_number-number.ensures c.if-number.false (λ i. omega (arith, c.type_inv.ram i)) (first.place, first.output) (second.place, second.output)
-    c.verdict_bytes.ensures c.if-out-first.false (third.place, third.output) c.trailer_bytes.ensures (fourth.place, fourth.output))
+    c.verdict_number-number.ensures (omega arith) (λ i. omega (arith, c.type_inv.ram i)) (first.place, first.output) (second.place, second.output)
+    c.verdict_bytes.ensures (omega arith) (third.place, third.output) c.trailer_bytes.ensures (fourth.place, fourth.output))
 
 -- ---- With two
 
@@ -99,7 +99,7 @@ pub returns-then-out-first-2 : goal.returns-then-out-first-2
 returns-then-out-first-2 c =
     rw c.in-Two.is
     (no_space-two _ _ _ _ _ _ _ (sym c.is_packing.ensures ∙ c.if-not-is_packing.false) (sym c.is_packing-2.ensures ∙ c.if-not-is_packing-2.false)
-    c.verdict_number-number.ensures c.if-number.false c.if-out-first-2.true)
+    (omega arith))
 
 pub returns-else-out-first-2 : goal.returns-else-out-first-2
 returns-else-out-first-2 c =
@@ -110,6 +110,6 @@ returns-else-out-first-2 c =
     let fifth = c.put-in-Two.ensures in
     rw c.in-Two.is
     (written-two _ _ _ _ _ _ _ (sym c.is_packing.ensures ∙ c.if-not-is_packing.false) (sym c.is_packing-2.ensures ∙ c.if-not-is_packing-2.false)
-    c.verdict_number-number.ensures c.if-number.false (λ i. omega (arith, c.type_inv.ram i)) (first.place, first.output) (second.place, second.output)
-    c.verdict_bytes-in-Two.ensures (λ i. omega (arith, c.type_inv.guard i)) c.if-out-first-2.false (third.place, third.output) (fourth.place, fourth.output)
+    c.verdict_number-number.ensures (omega arith) (λ i. omega (arith, c.type_inv.ram i)) (first.place, first.output) (second.place, second.output)
+    c.verdict_bytes-in-Two.ensures (λ i. omega (arith, c.type_inv.guard i)) (omega arith) (third.place, third.output) (fourth.place, fourth.output)
     c.guard_trailer_bytes.ensures (fifth.place, fifth.output))
