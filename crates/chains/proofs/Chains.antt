@@ -3,17 +3,17 @@
 --   front                        a chain that ends goes through every chain from its beginning
 --   ends_unique                  it ends after one number of calls, with one outcome
 --   ends-gives, gives-ends       it ends with an outcome exactly where its beginning gives it
-use Prim.Native.Nat.{ℕ, zero, suc, ◌+◌}
+use Prim.Native.Nat.{ℕ, suc, ◌+◌}
 use native.Mathlib.Omega.{arith}
-use mathlib.Core.Path.{◌≡◌, refl, sym, ap, ◌∙◌, subst}
+use mathlib.Core.Path.{◌≡◌, refl, ap, ◌∙◌, subst}
 use mathlib.Core.Bool.{true, false}
 use mathlib.Core.List.{List}
 use mathlib.Core.Option.{some}
 use lib.ListN.{get_elem?}
 use Rattle.semantics.specs.declared.Outcome.{Outcome}
 use Rattle.semantics.specs.declared.Outcome.TheVariants.{Truth}
-use Rattle.semantics.specs.Language.{Expr, constant, empty, param, op, ifte, call, Args, Function, Program, Traces, Value}
-use Rattle.semantics.specs.Rules.{Arguments, Derives, r_constant, r_empty, r_param, r_op, r_op_error, r_then, r_else, r_if_error, r_call, r_call_error, DerivesAll, r_none, r_arg, r_arg_error, r_later_error}
+use Rattle.semantics.specs.Language.{Expr, ifte, Function, Program, Traces, Value}
+use Rattle.semantics.specs.Rules.{Derives, r_constant, r_empty, r_param, r_op, r_op_error, r_then, r_else, r_if_error, r_call, r_call_error, DerivesAll, r_none, r_arg, r_arg_error, r_later_error}
 use Rattle.semantics.specs.Numbering.{Config}
 use Rattle.semantics.specs.Demand.{Gives}
 use Rattle.semantics.proofs.Induction.{Kept, derived}

@@ -7,23 +7,22 @@
 --   in_time_lem             a chain that ends has fewer calls than there are configurations
 use Prim.Native.Nat.{ℕ, zero, suc, ◌+◌, ◌-◌, ◌≤◌, ◌<◌}
 use native.Mathlib.Omega.{arith}
-use mathlib.Core.Path.{◌≡◌, refl, sym, ap, ◌∙◌, subst}
-use mathlib.Core.Bool.{◌&&◌}
-use mathlib.Core.List.{List, [], ◌∷◌}
+use mathlib.Core.Path.{◌≡◌, sym, ap, ◌∙◌}
+use mathlib.Core.List.{[], ◌∷◌}
 use mathlib.Core.Option.{Option, some}
 use lib.ListN.{get_elem?}
 use lib.Dec.{T}
 use Rattle.semantics.specs.declared.Outcome.{Outcome}
-use Rattle.semantics.specs.Language.{Function, Program, Traces, Value, InKinds, only, WellKinded}
+use Rattle.semantics.specs.Language.{Function, Program, Traces, InKinds, only, WellKinded}
 use Rattle.semantics.specs.Numbering.{cells, cell_of, Config, config_at}
 use Rattle.semantics.proofs.Numbering.{cell_lt, config_cell}
 use Rattle.chains.specs.Loops.{loops_in, only_loops}
 use Rattle.chains.specs.Following.{Turn, turn_of}
-use Rattle.chains.specs.Chain.{Comes, Step, Chain, start, more, EndsAfter}
+use Rattle.chains.specs.Chain.{Step, Chain, start, more, EndsAfter}
 use Rattle.chains.proofs.Outcomes.{both}
 use Rattle.chains.proofs.Turns.{comes_unique, Turned, ended, called, turned}
 use Rattle.chains.proofs.Counting.{Below, Different, fewer}
-use Rattle.chains.proofs.Chains.{same_config, ends_unique}
+use Rattle.chains.proofs.Chains.{ends_unique}
 
 pub loops_each : (P : Program) → T (only_loops P) → (g : ℕ) (f : Function) → get_elem? P g ≡ some f → T (loops_in f.body)
 unfolding only_loops

@@ -7,18 +7,16 @@
 --   kinds-all                and values of their kinds
 use Prim.Native.Nat.{ℕ}
 use native.Mathlib.Omega.{arith}
-use mathlib.Core.Path.{◌≡◌, refl, ◌∙◌}
+use mathlib.Core.Path.{◌≡◌, refl}
 use mathlib.Core.Bool.{Bool, true, false, ◌&&◌}
 use mathlib.Core.List.{List, [], ◌∷◌}
-use mathlib.Core.Option.{Option, none, some}
-use lib.ListN.{get_elem?}
+use mathlib.Core.Option.{Option, some}
 use lib.Dec.{T}
-use Rattle.semantics.specs.declared.Contact.{Contact}
 use Rattle.semantics.specs.declared.Outcome.{Outcome}
 use Rattle.semantics.specs.declared.Outcome.TheVariants.{Truth, Suffix, Failed}
 use Rattle.semantics.specs.Language.{Kind, truth, list, Op, hd, tl, null, Expr, constant, empty, param, op, ifte, call, Args, no_args, arg, Program, Traces, Value, bit, suffix, given, InKinds, Demand, only, any_list, op_allowed, operand_demand, Meets, MeetAll}
 use Rattle.semantics.specs.Rules.{applied, Arguments, values, failed, Derives, DerivesAll}
-use Rattle.semantics.specs.Bodies.{with_value, with_values, operated, chosen, param_value, body_outcome, args_outcome}
+use Rattle.semantics.specs.Bodies.{with_value, with_values, operated, chosen, body_outcome, args_outcome}
 use Rattle.semantics.proofs.Demands.{of_demand}
 use Rattle.semantics.proofs.Bodies.{value_there, KindCalls, OfKinds, kinded, kinded_all, SoundCalls, sound, sound-all}
 use Rattle.chains.specs.Loops.{no_call, no_call_among}

@@ -23,7 +23,7 @@ use Rattle.semantics.proofs.Unique.{derives_unique}
 use Rattle.semantics.proofs.Demands.{whole_in}
 use Rattle.chains.specs.declared.Followed.{Followed}
 use Rattle.chains.specs.Loops.{only_loops}
-use Rattle.chains.specs.Following.{Turn, turn_of, turn_in, on_turn, follow_from, followed}
+use Rattle.chains.specs.Following.{Turn, on_turn, follow_from, followed}
 use Rattle.chains.specs.Chain.{Step, Chain, start, more, EndsAfter, Endless}
 use Rattle.chains.specs.Owed.{main_on, Follows}
 use Rattle.chains.proofs.Turns.{Turned, ended, called}

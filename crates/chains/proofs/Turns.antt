@@ -4,22 +4,22 @@
 --   Turned, turned          on values of their kinds a body ends with its only outcome and comes to no call, or comes to a call
 use Prim.Native.Nat.{ℕ}
 use native.Mathlib.Omega.{arith}
-use mathlib.Core.Path.{◌≡◌, refl, sym, ◌∙◌, subst}
+use mathlib.Core.Path.{◌≡◌, refl}
 use mathlib.Core.Bool.{true, false}
 use mathlib.Core.List.{List}
-use mathlib.Core.Option.{Option, none, some}
+use mathlib.Core.Option.{Option, some}
 use lib.ListN.{get_elem?}
 use lib.Dec.{T}
 use Rattle.semantics.specs.declared.Error.{Error}
 use Rattle.semantics.specs.declared.Outcome.{Outcome}
 use Rattle.semantics.specs.declared.Outcome.TheVariants.{Truth, Suffix, Failed}
-use Rattle.semantics.specs.Language.{Kind, truth, Expr, constant, empty, param, op, ifte, call, Args, Function, Program, Traces, Value, bit, InKinds, Demand, only, Meets}
+use Rattle.semantics.specs.Language.{Kind, truth, Expr, constant, empty, param, op, ifte, call, Args, Function, Program, Traces, Value, InKinds, Demand, only, Meets}
 use Rattle.semantics.specs.Rules.{Arguments, values, failed, Derives, r_then, r_else, r_if_error, r_call, r_call_error, DerivesAll}
-use Rattle.semantics.specs.Bodies.{with_value, with_values, body_outcome, args_outcome}
+use Rattle.semantics.specs.Bodies.{with_value, with_values, body_outcome}
 use Rattle.semantics.proofs.Demands.{of_demand}
 use Rattle.semantics.proofs.Bodies.{OfKinds}
 use Rattle.semantics.proofs.Unique.{derives_unique, derives_all_unique}
-use Rattle.chains.specs.Loops.{no_call, no_call_among, loops_in}
+use Rattle.chains.specs.Loops.{no_call, loops_in}
 use Rattle.chains.specs.Following.{Turn, ends, calls, no_table, ends_with, chosen_turn, turn_of}
 use Rattle.chains.specs.Chain.{Comes, in_call, in_then, in_else}
 use Rattle.chains.proofs.Outcomes.{both_three, of_demand_lem, outcome, outcome_all, derived, derived_all, kinds-all}

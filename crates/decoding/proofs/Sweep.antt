@@ -2,7 +2,7 @@
 --   words_from      places that the sweep has passed keep their words
 --   word_there      each place of a program holds the decoding of the byte there over the words after it
 --   entry_there     each place of the functions holds its entry
-use Prim.Native.Nat.{ℕ, zero, suc, ◌+◌, ◌-◌, ◌<◌, ◌≤◌}
+use Prim.Native.Nat.{ℕ, zero, suc, ◌+◌, ◌<◌, ◌≤◌}
 use native.Mathlib.Nat.{zero-add, eq-or-lt_of_le}
 use native.Mathlib.Omega.{arith}
 use mathlib.Core.Path.{◌≡◌, refl, ◌∙◌}

@@ -3,7 +3,7 @@
 --   called_by_lem              the word of a call
 --   args-within            the places of arguments
 --   eval_means             the working number of what the body of a function, or a part of it, gives
-use Rattle.std.proofs.Common.{◌≡◌, ℕ, zero, suc, ◌+◌, ◌*◌, ◌/◌, ◌%◌, ◌<◌, ◌≤◌, true, false, List, [], ◌∷◌, ◌++◌, length, get_or, drop, refl, ap, ◌∙◌, append_assoc, mod-eq_of_lt, arith, length-append}
+use Rattle.std.proofs.Common.{◌≡◌, ℕ, zero, suc, ◌+◌, ◌*◌, ◌/◌, ◌%◌, ◌<◌, ◌≤◌, true, false, List, ◌∷◌, ◌++◌, length, get_or, drop, refl, ap, ◌∙◌, append_assoc, mod-eq_of_lt, arith, length-append}
 use mathlib.Core.Option.{Option, none, some}
 use lib.ListN.{get_elem?}
 use Rattle.semantics.specs.declared.Contact.TheVariants.{Ram, Guard}

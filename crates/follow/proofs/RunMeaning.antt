@@ -9,11 +9,11 @@ use native.Mathlib.Nat.{mod-eq_of_lt}
 use native.Mathlib.Omega.{arith}
 use mathlib.Core.Path.{◌≡◌, refl, sym, ap, ◌∙◌}
 use mathlib.Core.Bool.{Bool, true, false, cond}
-use mathlib.Core.List.{List, [], ◌∷◌, ◌++◌}
-use mathlib.Core.Option.{Option, none, some}
+use mathlib.Core.List.{List, []}
+use mathlib.Core.Option.{Option, some}
 use lib.Dec as dec
 use lib.Dec.{ltb, eqb}
-use lib.ListN.{length, get_elem?, get_or, drop, replicate, length-append, length-drop}
+use lib.ListN.{length, get_elem?, get_or, replicate, length-append, length-drop}
 use borrow.Author.Tests.{eq-eqb, ne_eqb, le-ltb}
 use Rattle.semantics.specs.declared.Contact.TheVariants.{Ram, Guard}
 use Rattle.semantics.specs.declared.Sort.{Sort}

@@ -4,8 +4,8 @@
 use Prim.Native.Nat.{ℕ, zero, suc, ◌+◌, ◌*◌, ◌/◌, ◌%◌, ◌≤◌, ◌<◌}
 use native.Mathlib.Nat.{zero-add}
 use native.Mathlib.Omega.{arith}
-use mathlib.Core.Path.{◌≡◌, refl, sym, ap, ◌∙◌}
-use mathlib.Core.Bool.{Bool, true, false}
+use mathlib.Core.Path.{◌≡◌, refl, ap, ◌∙◌}
+use mathlib.Core.Bool.{true, false}
 use mathlib.Core.List.{List, [], ◌∷◌, ◌++◌, append_assoc}
 use mathlib.Core.Option.{Option, none, some}
 use lib.ListN.{length, get_elem?, get_or, set, drop, length-append, length-set}
@@ -21,7 +21,6 @@ use Rattle.semantics.specs.Rules.{Arguments, values, failed}
 use Rattle.semantics.specs.Cells.{undecided_code, true_code, false_code, suffix_code, outcome_in}
 use Rattle.semantics.specs.Bodies.{with_value, with_values, body_outcome, args_outcome}
 use Rattle.semantics.specs.Visits.{lookup, held_by}
-use Rattle.semantics.specs.Numbering.{cell_of}
 use Rattle.semantics.proofs.Demands.{of_demand, demand_error}
 use Rattle.semantics.proofs.Bodies.{same_body}
 use Rattle.semantics.proofs.Visits.{lookup-kinds}
@@ -34,15 +33,15 @@ use Rattle.codes.specs.declared.Lengths.{Lengths}
 use Rattle.codes.specs.{working_of, guard_code}
 use Rattle.codes.proofs.CodeMeaning.{working_content}
 use Rattle.decoding.specs.Words.{sort_of, param_of, callee_of, places_of, if_sort, param_sort, constant_sort, head_sort, tail_sort, null_sort, head_param_sort, tail_param_sort, null_param_sort, second_place, third_place, call_sort}
-use Rattle.decoding.specs.Decoding.{end_at, conditional_by, placed, leaves_in, call_sort_of, decoded_by, constant_by, unary_by}
+use Rattle.decoding.specs.Decoding.{end_at, conditional_by, placed, leaves_in, call_sort_of, decoded_by, constant_by}
 use Rattle.decoding.proofs.Ends.{Ends, after_operand, bytes_after}
 use Rattle.decoding.proofs.Packing.{sort-packed}
-use Rattle.evaluator.specs.{eval_word, eval_at}
+use Rattle.evaluator.specs.{eval_at}
 use Rattle.evaluator.proofs.Sets.{EnvOf, Sets}
 use Rattle.evaluator.proofs.NodeMeaning.{Stand, Within, stand}
-use Rattle.evaluator.proofs.EvalMeaning.{append_four, depth_pos, Decoded, decoded, called_by_lem, args-within, eval_means}
+use Rattle.evaluator.proofs.EvalMeaning.{append_four, depth_pos, decoded, called_by_lem, args-within, eval_means}
 use Rattle.chains.specs.Loops.{no_call, no_call_among, loops_in}
-use Rattle.chains.specs.Following.{Turn, ends, calls, no_table, ends_with, chosen_turn, turn_of}
+use Rattle.chains.specs.Following.{Turn, ends, calls, no_table, ends_with, turn_of}
 use Rattle.chains.proofs.Outcomes.{both, both_three, outcome, of_demand_lem}
 use Rattle.follow.specs.Mirror.{failing, is_if, condition_by, branch_word, spine_of, arg_in, args_stop, args_put, args_left, arg_places, args_stop_at, args_left_at}
 use Rattle.follow.proofs.WordMeaning.{unary_plain, taken_stop, plain_kept, plain-taken, constant_kept, constant-taken, if_told, condition_word, second_word, third_word, call_kept, call-callee, call_high, call_places, call-stop, call-left, call-taken}

@@ -15,11 +15,11 @@ use mathlib.Core.Bool.{Bool, true, false, cond}
 use mathlib.Core.List.{List}
 use lib.Dec.{ltb, eqb}
 use lib.ListN.{get_or}
-use borrow.Author.Tests.{lt-ltb, le-ltb, eq-eqb, ne_eqb, eqb-true}
+use borrow.Author.Tests.{lt-ltb, le-ltb, eqb-true}
 use Rattle.syntax.specs.Limits.{most_depth}
 use Rattle.syntax.specs.Kinds.{guard_kind}
 use Rattle.codes.specs.{head_of, null_of}
-use Rattle.decoding.specs.Words.{constant_sort, param_sort, head_param_sort, null_param_sort, if_sort, if_param_sort, if_null_sort, if_head_sort, call_sort, call_one_sort, call_guard_sort, call_leaves_sort, packed, sort_of, param_of, callee_of, count_of, places_of, first_place, second_place, third_place}
+use Rattle.decoding.specs.Words.{constant_sort, param_sort, head_param_sort, null_param_sort, if_sort, if_param_sort, if_null_sort, if_head_sort, call_sort, call_one_sort, call_guard_sort, call_leaves_sort, packed, sort_of, param_of, callee_of, count_of, places_of, second_place, third_place}
 use Rattle.decoding.specs.Decoding.{end_at, constant_by, unary_by, conditional_by, placed, call_sort_of}
 use Rattle.decoding.proofs.Packing.{sort-packed, param-packed, callee-packed, count_packed, first-packed, second_packed, third_packed}
 use Rattle.evaluator.specs.{param_in, sort_by, eval_word, eval_at}

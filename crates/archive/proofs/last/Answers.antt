@@ -5,7 +5,7 @@ use lib.ListN.{take}
 use lib.Seq.{length-take-le, take_all}
 use Rattle.archive.specs.Walk.{step_in}
 use Rattle.archive.proofs.Walking.{step_owed}
-use Rattle.std.proofs.Common.{rules, ap, not}
+use Rattle.std.proofs.Common.{ap}
 use Rattle.archive.proofs.last.Goals as goal
 
 pub slice_bounds-step_of-end : goal.slice_bounds-step_of-end

@@ -8,7 +8,6 @@ use Rattle.layout.specs.declared.Reading.{Reading}
 use Rattle.record.specs.Reading.{reading}
 use Rattle.archive.specs.declared.Step.TheVariants as step
 use Rattle.archive.specs.Walk.{step_by, step_in}
-use Rattle.std.proofs.Common.{rules, ap, not}
 use Rattle.archive.proofs.step_of.Goals as goal
 
 step-none : (bytes : List ℕ) → length bytes ≡ 0 → step.End ≡ step_in bytes

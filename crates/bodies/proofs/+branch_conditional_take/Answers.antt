@@ -1,11 +1,9 @@
-use Prim.Native.Nat.{ℕ, ◌<◌}
-use Prim.Native.Nat.{◌+◌, ◌*◌}
+use Prim.Native.Nat.{ℕ}
 use mathlib.Core.Path.{◌≡◌, refl, sym, ◌∙◌}
 use native.Mathlib.Omega.{arith}
 use Rattle.codes.specs.{head_of, null_of}
 use Rattle.evaluator.proofs.EvalWays.{branch_true, branch_false, branch_other}
 use Rattle.bodies.proofs.SpineWays.{sort_at_lem, fused_at, branch_long, call_leaves_at_lem}
-use Rattle.std.proofs.Common.{rules}
 use Rattle.bodies.proofs.+branch_conditional_take.Goals as goal
 
 pub branch-take-requires : goal.branch-take-requires

@@ -1,11 +1,5 @@
 -- `take` and the functions that it calls in turn meet their contracts. A node takes 3 of the measure, which is the depth left.
-use Prim.Native.Nat.{ℕ, ◌<◌}
 use Prim.Native.Nat.{◌+◌, ◌*◌}
-use mathlib.Core.Path.{◌≡◌, refl, sym, ◌∙◌}
-use native.Mathlib.Omega.{arith}
-use Rattle.codes.specs.{head_of, null_of}
-use Rattle.evaluator.proofs.EvalWays.{branch_true, branch_false, branch_other}
-use Rattle.bodies.proofs.SpineWays.{sort_at_lem, fused_at, branch_long, call_leaves_at_lem}
 use Rattle.bodies.proofs.+branch_conditional_take.Given as goal
 
 abbrev pub decreases-branch : goal.decreases-branch

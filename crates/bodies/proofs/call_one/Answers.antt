@@ -6,7 +6,6 @@ use Rattle.decoding.specs.Words.{callee_of}
 use Rattle.evaluator.specs.{call_one_at}
 use Rattle.evaluator.proofs.EvalWays.{function_at_lem, first_param_at, one-stop, one_found, lookup_is}
 use Rattle.bodies.proofs.SpineWays.{leaf_at_lem, call_one_at_lem}
-use Rattle.std.proofs.Common.{rules, ap, not}
 use Rattle.bodies.proofs.call_one.Goals as goal
 
 pub returns-then-value : goal.returns-then-value

@@ -1,7 +1,6 @@
 -- `leaf` meets its contract, by the sorts of leaves.
 use mathlib.Core.Path.{sym}
 use Rattle.bodies.proofs.SpineWays.{leaf_by_lem, plain-leaf}
-use Rattle.std.proofs.Common.{rules, ap, not}
 use Rattle.bodies.proofs.leaf.Goals as goal
 
 pub returns-then-sort-eq-TAIL_PARAM : goal.returns-then-sort-eq-TAIL_PARAM

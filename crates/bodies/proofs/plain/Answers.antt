@@ -1,7 +1,6 @@
 -- `plain` meets its contract.
 use mathlib.Core.Path.{sym, ◌∙◌}
 use Rattle.bodies.proofs.SpineWays.{plain-param, plain-constant}
-use Rattle.std.proofs.Common.{rules, ap, not}
 use Rattle.bodies.proofs.plain.Goals as goal
 
 pub returns-then-sort-eq-PARAM : goal.returns-then-sort-eq-PARAM

@@ -1,6 +1,5 @@
 -- `decided` meets its contract, by its three cases.
 use borrow.Author.Tests.{lt-ltb, le-ltb}
-use Rattle.std.proofs.Common.{rules}
 use Rattle.codes.proofs.decided.Goals as goal
 
 pub returns-then-cell-least : goal.returns-then-cell-least

@@ -1,6 +1,5 @@
 -- `head` meets its contract, by its two cases.
 use mathlib.Core.Path.{sym, ◌∙◌}
-use Rattle.std.proofs.Common.{rules}
 use Rattle.codes.proofs.head.Goals as goal
 
 pub returns-then-has_samples : goal.returns-then-has_samples

@@ -1,6 +1,5 @@
 -- `least` meets its contract, by its two cases.
 use borrow.Author.Tests.{eq-eqb, ne_eqb}
-use Rattle.std.proofs.Common.{rules}
 use Rattle.codes.proofs.least.Goals as goal
 
 pub returns-then-kind-eq-TRUTH : goal.returns-then-kind-eq-TRUTH

@@ -1,6 +1,5 @@
 -- `length` meets its contract, by its two cases.
 use borrow.Author.Tests.{eq-eqb, ne_eqb}
-use Rattle.std.proofs.Common.{rules}
 use Rattle.codes.proofs.length.Goals as goal
 
 pub returns-then-kind-eq-GUARD : goal.returns-then-kind-eq-GUARD

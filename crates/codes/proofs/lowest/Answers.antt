@@ -1,6 +1,5 @@
 -- `lowest` meets its contract, by the three kinds.
 use borrow.Author.Tests.{eq-eqb, ne_eqb}
-use Rattle.std.proofs.Common.{rules}
 use Rattle.codes.proofs.lowest.Goals as goal
 
 pub returns-then-kind-eq-TRUTH : goal.returns-then-kind-eq-TRUTH

@@ -1,6 +1,5 @@
 -- `most` meets its contract, by its two cases.
 use borrow.Author.Tests.{eq-eqb, ne_eqb}
-use Rattle.std.proofs.Common.{rules}
 use Rattle.codes.proofs.most.Goals as goal
 
 pub returns-then-kind-eq-TRUTH : goal.returns-then-kind-eq-TRUTH

@@ -6,7 +6,6 @@ use native.Mathlib.Omega.{arith}
 use lib.Dec.{eqb}
 use lib.ListN.{get_or}
 use Rattle.trace.specs.{bit_of}
-use Rattle.std.proofs.Common.{rules}
 use Rattle.codes.proofs.sample.Goals as goal
 
 -- a digit as the number of a Bool

@@ -1,6 +1,5 @@
 -- `shifted` meets its contract, by its two cases.
 use borrow.Author.Tests.{lt-ltb, le-ltb}
-use Rattle.std.proofs.Common.{rules}
 use Rattle.codes.proofs.shifted.Goals as goal
 
 pub returns-then-cell-lt-SUFFIX : goal.returns-then-cell-lt-SUFFIX

@@ -5,7 +5,6 @@ use native.Mathlib.Omega.{arith}
 use borrow.Author.Tests.{ltb-true}
 use Rattle.semantics.specs.Cells.{suffix_code}
 use Rattle.codes.specs.{guard_shift}
-use Rattle.std.proofs.Common.{rules}
 use Rattle.codes.proofs.tail.Goals as goal
 
 pub overflow_sub-result : goal.overflow_sub-result

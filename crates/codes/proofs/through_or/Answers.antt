@@ -1,6 +1,5 @@
 -- `through_or` meets its contract, by its two cases.
 use borrow.Author.Tests.{lt-ltb, le-ltb}
-use Rattle.std.proofs.Common.{rules}
 use Rattle.codes.proofs.through_or.Goals as goal
 
 pub returns-then-operand-lt-SUFFIX : goal.returns-then-operand-lt-SUFFIX

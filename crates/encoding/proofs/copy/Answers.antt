@@ -1,11 +1,8 @@
 -- The goals that are left.
-use mathlib.Core.Path.{◌≡◌, ap, ◌∙◌}
-use Prim.Native.Nat.{◌-◌, ◌≤◌}
+use mathlib.Core.Path.{ap, ◌∙◌}
 use native.Mathlib.Omega.{arith}
-use lib.ListN.{length, take}
-use Rattle.encoding.specs.{begins}
+use lib.ListN.{length}
 use Rattle.encoding.proofs.Putting.{length-begins, begins-start, begins-length, begins-more, begins_end}
-use Rattle.std.proofs.Common.{rules}
 use Rattle.encoding.proofs.copy.Goals as goal
 
 pub loop-i-init : goal.loop-i-init

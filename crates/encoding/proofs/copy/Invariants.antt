@@ -1,10 +1,8 @@
 -- `copy` meets its contract. After i turns the output begins with the first i bytes of the text.
-use mathlib.Core.Path.{◌≡◌, ap, ◌∙◌}
+use mathlib.Core.Path.{◌≡◌}
 use Prim.Native.Nat.{◌-◌, ◌≤◌}
-use native.Mathlib.Omega.{arith}
 use lib.ListN.{length, take}
 use Rattle.encoding.specs.{begins}
-use Rattle.encoding.proofs.Putting.{length-begins, begins-start, begins-length, begins-more, begins_end}
 use Rattle.encoding.proofs.copy.Given as goal
 
 abbrev pub invariant-loop-i : goal.invariant-loop-i

@@ -1,7 +1,6 @@
 -- The goals that are left.
 use native.Mathlib.Omega.{arith}
-use Rattle.encoding.proofs.Decimal.{Writing, figures_start, figures_room, figures_more, figures_end}
-use Rattle.std.proofs.Common.{rules}
+use Rattle.encoding.proofs.Decimal.{figures_start, figures_room, figures_more, figures_end}
 use Rattle.encoding.proofs.figures_of.Goals as goal
 
 pub loop-rest-init : goal.loop-rest-init

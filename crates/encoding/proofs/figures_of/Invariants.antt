@@ -1,6 +1,5 @@
 -- `figures_of` meets its contract: each turn writes one more figure, and ten are enough for a number of 32 bits.
-use native.Mathlib.Omega.{arith}
-use Rattle.encoding.proofs.Decimal.{Writing, figures_start, figures_room, figures_more, figures_end}
+use Rattle.encoding.proofs.Decimal.{Writing}
 use Rattle.encoding.proofs.figures_of.Given as goal
 
 abbrev pub invariant-loop-rest : goal.invariant-loop-rest

@@ -1,7 +1,6 @@
 -- `put` meets its contract: the two tests are whether there is room.
 use native.Mathlib.Omega.{arith}
 use Rattle.encoding.proofs.Putting.{no_room, put_part}
-use Rattle.std.proofs.Common.{rules}
 use Rattle.encoding.proofs.put.Goals as goal
 
 pub returns-then-len-at-clause-place : goal.returns-then-len-at-clause-place

@@ -1,9 +1,6 @@
 -- `evaluate_handed` meets its contract: a refusal, or the verdict of a settled evaluation, with demand 3.
-use lib.ListN.{length}
-use Rattle.semantics.specs.Handed.{Handed, handed}
-use Rattle.prepare.specs.Settled.{Settled}
+use Rattle.semantics.specs.Handed.{handed}
 use Rattle.evaluate.proofs.Evaluating.{evaluate_refused, evaluate_passed}
-use Rattle.std.proofs.Common.{rules, ap, not}
 use Rattle.evaluate.proofs.evaluate_handed.Goals as goal
 
 pub lengths-requires : goal.lengths-requires

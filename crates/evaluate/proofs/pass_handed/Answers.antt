@@ -1,9 +1,6 @@
 -- `pass_handed` meets its contract: a refusal, or one pass of a settled evaluation.
-use lib.ListN.{length}
-use Rattle.semantics.specs.Handed.{Handed, handed}
-use Rattle.prepare.specs.Settled.{Settled}
+use Rattle.semantics.specs.Handed.{handed}
 use Rattle.evaluate.proofs.Evaluating.{pass-refused, pass_passed}
-use Rattle.std.proofs.Common.{rules, ap, not}
 use Rattle.evaluate.proofs.pass_handed.Goals as goal
 
 pub lengths-requires : goal.lengths-requires

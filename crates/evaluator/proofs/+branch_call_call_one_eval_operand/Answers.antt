@@ -1,9 +1,8 @@
-use Rattle.std.proofs.Common.{◌≡◌, ℕ, ◌+◌, ◌-◌, ◌*◌, ◌<◌, sym, ap, ◌∙◌, inl, inr, ⊎_elim, arith, rules}
+use Rattle.std.proofs.Common.{◌≡◌, ℕ, ◌+◌, ◌*◌, ◌<◌, sym, ap, ◌∙◌, inl, inr, ⊎_elim, arith}
 use Rattle.codes.specs.{shifted_code}
-use Rattle.decoding.specs.Words.{callee_of, places_of}
-use Rattle.evaluator.specs.{sort_by, eval_word, eval_at, branch_at, call_at, call_one_at, call_leaves_at}
-use Rattle.evaluator.proofs.EvalWays.{apart_above, eval_deep, eval_sort, eval_other, branch_true, branch_false, branch_other, Along, along_start, along_end, along_stop, along_more, not-below, function_at_lem, param_at_lem, first_param_at, args_count, working_plain, working_guard, one-stop, one_found, next_index_is, lookup_is}
-use Rattle.std.proofs.Common.{rules}
+use Rattle.decoding.specs.Words.{callee_of}
+use Rattle.evaluator.specs.{eval_word, branch_at, call_at, call_one_at, call_leaves_at}
+use Rattle.evaluator.proofs.EvalWays.{apart_above, eval_deep, eval_sort, eval_other, branch_true, branch_false, branch_other, along_start, along_end, along_stop, along_more, not-below, function_at_lem, param_at_lem, first_param_at, args_count, working_plain, working_guard, one-stop, one_found, next_index_is, lookup_is}
 use Rattle.evaluator.proofs.+branch_call_call_one_eval_operand.Goals as goal
 
 pub branch-eval-requires : goal.branch-eval-requires

@@ -1,9 +1,8 @@
 -- `eval` and the functions that it calls meet their contracts. A node takes 4 of the measure, which is the depth left.
-use Rattle.std.proofs.Common.{◌≡◌, ℕ, ◌+◌, ◌-◌, ◌*◌, ◌<◌, sym, ap, ◌∙◌, inl, inr, ⊎_elim, arith, rules}
-use Rattle.codes.specs.{shifted_code}
+use Rattle.std.proofs.Common.{◌≡◌, ◌+◌, ◌-◌, ◌*◌}
 use Rattle.decoding.specs.Words.{callee_of, places_of}
-use Rattle.evaluator.specs.{sort_by, eval_word, eval_at, branch_at, call_at, call_one_at, call_leaves_at}
-use Rattle.evaluator.proofs.EvalWays.{apart_above, eval_deep, eval_sort, eval_other, branch_true, branch_false, branch_other, Along, along_start, along_end, along_stop, along_more, not-below, function_at_lem, param_at_lem, first_param_at, args_count, working_plain, working_guard, one-stop, one_found, next_index_is, lookup_is}
+use Rattle.evaluator.specs.{eval_at}
+use Rattle.evaluator.proofs.EvalWays.{Along}
 use Rattle.evaluator.proofs.+branch_call_call_one_eval_operand.Given as goal
 
 abbrev pub decreases-branch : goal.decreases-branch

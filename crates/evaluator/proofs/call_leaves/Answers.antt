@@ -1,9 +1,8 @@
 -- The goals that are left.
-use Rattle.std.proofs.Common.{◌≡◌, ◌+◌, ◌-◌, ◌*◌, ◌<◌, sym, ap, ◌∙◌, arith, rules}
-use Rattle.decoding.specs.Words.{callee_of, places_of}
-use Rattle.evaluator.specs.{leaf_by, leaf_at, call_leaves_at}
-use Rattle.evaluator.proofs.EvalWays.{Along, along_start, along_end, along_stop, along_more, not-below, function_at_lem, param_at_lem, args_count, next_index_is, lookup_is}
-use Rattle.std.proofs.Common.{rules, ap, not}
+use Rattle.std.proofs.Common.{◌<◌, sym, ap, ◌∙◌, arith}
+use Rattle.evaluator.specs.{leaf_by, call_leaves_at}
+use Rattle.evaluator.proofs.EvalWays.{along_start, along_end, along_stop, along_more, not-below, function_at_lem, param_at_lem, args_count, next_index_is, lookup_is}
+use Rattle.std.proofs.Common.{ap}
 use Rattle.evaluator.proofs.call_leaves.Goals as goal
 
 pub overflow_mul-place : goal.overflow_mul-place

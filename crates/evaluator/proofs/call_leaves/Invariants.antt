@@ -1,8 +1,8 @@
 -- `call_leaves` meets its contract. Before each turn the call has gone past i of its arguments.
-use Rattle.std.proofs.Common.{◌≡◌, ◌+◌, ◌-◌, ◌*◌, ◌<◌, sym, ap, ◌∙◌, arith, rules}
+use Rattle.std.proofs.Common.{◌≡◌, ◌+◌, ◌-◌, ◌*◌}
 use Rattle.decoding.specs.Words.{callee_of, places_of}
-use Rattle.evaluator.specs.{leaf_by, leaf_at, call_leaves_at}
-use Rattle.evaluator.proofs.EvalWays.{Along, along_start, along_end, along_stop, along_more, not-below, function_at_lem, param_at_lem, args_count, next_index_is, lookup_is}
+use Rattle.evaluator.specs.{leaf_at}
+use Rattle.evaluator.proofs.EvalWays.{Along}
 use Rattle.evaluator.proofs.call_leaves.Given as goal
 
 abbrev pub invariant-loop-i : goal.invariant-loop-i

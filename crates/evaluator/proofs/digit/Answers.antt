@@ -1,7 +1,6 @@
 -- `digit` meets its contract: a difference that wraps round comes after all digits.
-use Rattle.std.proofs.Common.{arith, rules}
+use Rattle.std.proofs.Common.{arith}
 use Rattle.evaluator.proofs.EvalWays.{wraps}
-use Rattle.std.proofs.Common.{rules, ap, not}
 use Rattle.evaluator.proofs.digit.Goals as goal
 
 pub returns : goal.returns

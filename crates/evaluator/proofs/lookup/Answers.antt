@@ -1,8 +1,7 @@
 -- `lookup` meets its contract, by its two cases.
-use Rattle.std.proofs.Common.{sym, rules}
+use Rattle.std.proofs.Common.{sym}
 use Rattle.evaluator.specs.{lookup_by}
 use Rattle.evaluator.proofs.EvalWays.{lookup_past}
-use Rattle.std.proofs.Common.{rules, ap, not}
 use Rattle.evaluator.proofs.lookup.Goals as goal
 
 pub returns-then-cells-cell : goal.returns-then-cells-cell

@@ -1,7 +1,6 @@
 -- `next_index` meets its contract: the product and the sum fit.
 use Rattle.std.proofs.Common.{ℕ, ◌*◌, ◌%◌, ◌≤◌, refl, mul-le-mul, arith}
 use Rattle.evaluator.specs.{bound, digit_bound}
-use Rattle.std.proofs.Common.{rules, ap, not}
 use Rattle.evaluator.proofs.next_index.Goals as goal
 
 product : (index radix : ℕ) → index % bound * (radix % digit_bound) ≤ 4294967295 * 65535

@@ -1,6 +1,6 @@
 -- `param` meets its contract.
-use Rattle.std.proofs.Common.{ℕ, get_or, ap, rules}
-use Rattle.std.proofs.Common.{rules, ap, not}
+use Rattle.std.proofs.Common.{ℕ, get_or, ap}
+use Rattle.std.proofs.Common.{ap}
 use Rattle.evaluator.proofs.param.Goals as goal
 
 pub returns : goal.returns

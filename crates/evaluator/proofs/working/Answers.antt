@@ -1,6 +1,5 @@
 -- `working` meets its contract, by its two cases.
-use Rattle.std.proofs.Common.{rules, eq-eqb, ne_eqb}
-use Rattle.std.proofs.Common.{rules, ap, not}
+use Rattle.std.proofs.Common.{eq-eqb, ne_eqb}
 use Rattle.evaluator.proofs.working.Goals as goal
 
 pub returns-then-sort-eq-CALL_GUARD : goal.returns-then-sort-eq-CALL_GUARD

@@ -1,10 +1,7 @@
 -- The goals that are left.
-use Prim.Native.Nat.{◌-◌}
 use native.Mathlib.Omega.{arith}
-use Rattle.passes.specs.Mirror.{setup}
 use Rattle.fixpoint.specs.{most_passes}
-use Rattle.fixpoint.proofs.Running.{Running, running_start, running_length, running_stop, running_more, running_end}
-use Rattle.std.proofs.Common.{rules, ap, not}
+use Rattle.fixpoint.proofs.Running.{running_start, running_length, running_stop, running_more, running_end}
 use Rattle.fixpoint.proofs.run.Goals as goal
 
 pub loop-done-init : goal.loop-done-init

@@ -1,9 +1,8 @@
 -- `run` meets its contract. Before each turn the passes made have all stored.
 use Prim.Native.Nat.{◌-◌}
-use native.Mathlib.Omega.{arith}
 use Rattle.passes.specs.Mirror.{setup}
 use Rattle.fixpoint.specs.{most_passes}
-use Rattle.fixpoint.proofs.Running.{Running, running_start, running_length, running_stop, running_more, running_end}
+use Rattle.fixpoint.proofs.Running.{Running}
 use Rattle.fixpoint.proofs.run.Given as goal
 
 abbrev pub invariant-loop-done : goal.invariant-loop-done

@@ -1,7 +1,6 @@
 -- `checked` meets its contract, by its three cases.
 use borrow.Author.Tests.{eq-eqb, ne_eqb}
 use Rattle.follow.specs.Mirror.{check_by}
-use Rattle.std.proofs.Common.{rules, ap, not}
 use Rattle.follow.proofs.checked.Goals as goal
 
 pub returns-then-outline-eq0 : goal.returns-then-outline-eq0

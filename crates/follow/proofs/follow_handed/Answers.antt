@@ -1,15 +1,9 @@
 -- `follow_handed` meets its contract: a refusal, or what following a settled program that only loops comes to, with what is owed of it.
 use mathlib.Core.Path.{◌≡◌, ◌∙◌}
-use mathlib.Core.Bool.{true}
 use native.Mathlib.Omega.{arith}
-use Rattle.semantics.specs.Handed.{Handed, handed}
-use Rattle.semantics.specs.Numbering.{most_cells}
-use Rattle.prepare.specs.Settled.{Settled}
-use Rattle.rule.specs.Reading.{program_of}
-use Rattle.chains.specs.Loops.{only_loops}
+use Rattle.semantics.specs.Handed.{handed}
 use Rattle.follow.specs.Follow.{follow_check}
 use Rattle.follow.proofs.Answers.{check_means, passed_onward, follow_refused, follow_passed}
-use Rattle.std.proofs.Common.{rules, ap, not}
 use Rattle.follow.proofs.follow_handed.Goals as goal
 
 pub lengths-requires : goal.lengths-requires

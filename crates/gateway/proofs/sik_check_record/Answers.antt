@@ -16,7 +16,7 @@ returns-clause-decides c =
     let told = c.check-checked.ensures in
     let left = c.agreement_with.ensures in
     λ P s f t.
-        let d = told.decides P s f t in
-        let j = compared-told a.bytes.now d.0 a.answer.now in
-        let k = told_as numbers a.answer.now left.number left.answer d.1 in
-        (d.0, (k.0 ∙ j.0, k.1 ∙ j.1), d.2)
+    let d = told.decides P s f t in
+    let j = compared-told a.bytes.now d.0 a.answer.now in
+    let k = told_as numbers a.answer.now left.number left.answer d.1 in
+    (d.0, (k.0 ∙ j.0, k.1 ∙ j.1), d.2)

@@ -1,7 +1,6 @@
 -- `body_loops` meets its contract, by its three cases.
 use borrow.Author.Tests.{lt-ltb, le-ltb}
 use Rattle.loops.specs.{body_loops}
-use Rattle.std.proofs.Common.{rules}
 use Rattle.loops.proofs.body_loops.Goals as goal
 
 pub returns-then-last-first : goal.returns-then-last-first

@@ -1,9 +1,5 @@
 -- The goals that are left.
-use Prim.Native.Nat.{◌-◌}
-use native.Mathlib.Omega.{arith}
-use lib.ListN.{length}
-use Rattle.loops.proofs.Passing.{Read, read-start, read_outer, read-call, read_inner, read_whole}
-use Rattle.std.proofs.Common.{rules}
+use Rattle.loops.proofs.Passing.{read-start, read_outer, read-call, read_inner, read_whole}
 use Rattle.loops.proofs.bytes_loop.Goals as goal
 use Rattle.loops.proofs.bytes_loop.Goals.{then-due-eq0, else-due-eq0+else-shape}
 
@@ -22,8 +18,8 @@ loop-i-preserved c =
     let h = c.loop-i-test.true in
     let u = c.loop-i.invariant in
     elim c.if-due-eq0.branch [
-      then-due-eq0 w ↦
+      | then-due-eq0 w ↦
           rw w.due-is (read_outer _ _ h c.node_of.ensures c.shape_of-shape.ensures _ u w.if-due-eq0.true)
-    | else-due-eq0+else-shape w ↦
+      | else-due-eq0+else-shape w ↦
           rw w.due-is (read_inner _ _ h c.node_of.ensures c.shape_of-shape.ensures _ u w.if-due-eq0.false w.if-shape.false)
     ]

@@ -1,9 +1,7 @@
 -- `bytes_loop` meets its contract. Before turn i the bytes before it are read, and what is due is known.
 use Prim.Native.Nat.{◌-◌}
-use mathlib.Core.Logic.{⊎_elim}
-use native.Mathlib.Omega.{arith}
 use lib.ListN.{length}
-use Rattle.loops.proofs.Passing.{Read, read-start, read_outer, read-call, read_inner, read_whole}
+use Rattle.loops.proofs.Passing.{Read}
 use Rattle.loops.proofs.bytes_loop.Given as goal
 
 abbrev pub invariant-loop-i : goal.invariant-loop-i

@@ -1,9 +1,8 @@
 -- The goals that are left.
-use Prim.Native.Nat.{◌-◌}
 use native.Mathlib.Omega.{arith}
-use Rattle.loops.specs.{body_by, loops_by}
-use Rattle.loops.proofs.Passing.{Going, going_start, going_stop, going_more, going_whole}
-use Rattle.std.proofs.Common.{rules, ap, not}
+use Rattle.loops.specs.{loops_by}
+use Rattle.loops.proofs.Passing.{going_start, going_stop, going_more, going_whole}
+use Rattle.std.proofs.Common.{ap, not}
 use Rattle.loops.proofs.only_loops.Goals as goal
 
 pub loop-i-init : goal.loop-i-init

@@ -1,8 +1,7 @@
 -- `only_loops` meets its contract. Before turn i the bodies before it are read, and have calls only where they may stand.
 use Prim.Native.Nat.{◌-◌}
-use native.Mathlib.Omega.{arith}
-use Rattle.loops.specs.{body_by, loops_by}
-use Rattle.loops.proofs.Passing.{Going, going_start, going_stop, going_more, going_whole}
+use Rattle.loops.specs.{body_by}
+use Rattle.loops.proofs.Passing.{Going}
 use Rattle.loops.proofs.only_loops.Given as goal
 
 abbrev pub invariant-loop-i : goal.invariant-loop-i

@@ -1,6 +1,5 @@
 -- `shape_of` meets its contract, by the kinds of nodes.
 use native.Mathlib.Omega.{arith}
-use Rattle.std.proofs.Common.{rules}
 use Rattle.loops.proofs.shape_of.Goals as goal
 
 pub returns-in-False : goal.returns-in-False

@@ -1,12 +1,12 @@
 -- The goals that are left.
-use mathlib.Core.Path.{◌≡◌, refl, ap, ◌∙◌}
-use mathlib.Core.List.{List, ◌++◌}
-use Prim.Native.Nat.{ℕ, ◌-◌, ◌<◌, ◌≤◌}
+use mathlib.Core.Path.{refl, ap, ◌∙◌}
+use mathlib.Core.List.{List}
+use Prim.Native.Nat.{ℕ}
 use native.Mathlib.Omega.{arith}
-use lib.ListN.{length, set, drop, replicate, length-set}
+use lib.ListN.{set, length-set}
 use borrow.Author.Fill.{fill_more}
 use Rattle.passes.proofs.PassWays.{cleared-whole}
-use Rattle.std.proofs.Common.{rules, ap, not}
+use Rattle.std.proofs.Common.{ap}
 use Rattle.passes.proofs.clear.Goals as goal
 
 pub loop-i-init : goal.loop-i-init
@@ -20,10 +20,10 @@ bounds-table-i c = omega (arith, c.loop-i-test.true, c.smaller-last.ensures, c.l
 
 pub loop-i-preserved : goal.loop-i-preserved
 loop-i-preserved c = let i = c.loop-i.i in (
-      omega (arith, c.loop-i-test.true),
-      ap (λ (l : List ℕ). set l i 0) c.loop-i.invariant.1 ∙ fill_more i 0 c.args.table.now ((omega (arith, c.loop-i-test.true, c.smaller-last.ensures))),
-      length-set c.loop-i.table i 0 ∙ c.loop-i.invariant.2,
-    )
+  omega (arith, c.loop-i-test.true),
+  ap (λ (l : List ℕ). set l i 0) c.loop-i.invariant.1 ∙ fill_more i 0 c.args.table.now ((omega (arith, c.loop-i-test.true, c.smaller-last.ensures))),
+  length-set c.loop-i.table i 0 ∙ c.loop-i.invariant.2,
+)
 
 pub shape_of-table : goal.shape_of-table
 shape_of-table c = c.loop-i.invariant.2

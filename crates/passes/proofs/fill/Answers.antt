@@ -4,7 +4,7 @@ use native.Mathlib.Omega.{arith}
 use lib.ListN.{set}
 use Rattle.codes.specs.{cell_code}
 use Rattle.passes.proofs.PassWays.{put_none, put_some}
-use Rattle.std.proofs.Common.{rules, ap, not}
+use Rattle.std.proofs.Common.{ap}
 use Rattle.passes.proofs.fill.Goals as goal
 
 pub returns-then-outcome-eq-UNDECIDED-clause-cells : goal.returns-then-outcome-eq-UNDECIDED-clause-cells

@@ -1,9 +1,6 @@
 -- `lies_within` meets its contract, by its four cases.
 use mathlib.Core.Path.{sym, ◌∙◌}
-use borrow.Author.Tests.{not-true, not-false}
-use Rattle.codes.specs.{Short}
 use Rattle.passes.proofs.PassWays.{true_short, fits_beyond, fits-long, fits_past, fits-left}
-use Rattle.std.proofs.Common.{rules, ap, not}
 use Rattle.passes.proofs.lies_within.Goals as goal
 
 pub returns-then-g : goal.returns-then-g

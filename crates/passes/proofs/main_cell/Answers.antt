@@ -2,7 +2,6 @@
 use native.Mathlib.Omega.{arith}
 use Rattle.passes.specs.Mirror.{main_cell_of}
 use Rattle.passes.proofs.SetupLoops.{short-shortened, size_nonzero}
-use Rattle.std.proofs.Common.{rules, ap, not}
 use Rattle.passes.proofs.main_cell.Goals as goal
 
 pub size-requires : goal.size-requires

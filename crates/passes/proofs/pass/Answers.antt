@@ -1,12 +1,7 @@
 -- The goals that are left.
 use mathlib.Core.Path.{sym, ◌∙◌}
-use mathlib.Core.Logic.{⊎_elim}
-use Prim.Native.Nat.{◌-◌, ◌≤◌}
 use native.Mathlib.Omega.{arith}
-use lib.ListN.{length}
-use Rattle.passes.specs.Mirror.{setup, Ready}
-use Rattle.passes.proofs.PassWays.{fits-ready, Covering, covering_start, covering_more, covering_over, covering_end}
-use Rattle.std.proofs.Common.{rules, ap, not}
+use Rattle.passes.proofs.PassWays.{fits-ready, covering_start, covering_more, covering_over, covering_end}
 use Rattle.passes.proofs.pass.Goals as goal
 use Rattle.passes.proofs.pass.Goals.{then-lies_within, else-lies_within}
 
@@ -47,11 +42,11 @@ loop-g-preserved c =
     let inv = c.loop-g.invariant.0 in
     let test = sym c.lies_within.ensures in (
       elim c.if-lies_within.branch [
-        then-lies_within w ↦
+        | then-lies_within w ↦
             rw (w.table-is, w.stored-is)
             (covering_more inv (test ∙ w.if-lies_within.true) (rw w.body_of-body.ensures at w.pass_function-stored.ensures.cells)
             (rw w.body_of-body.ensures at w.pass_function-stored.ensures.stored))
-      | else-lies_within w ↦ rw (w.table-is, w.stored-is) (covering_over inv (test ∙ w.if-lies_within.false))
+        | else-lies_within w ↦ rw (w.table-is, w.stored-is) (covering_over inv (test ∙ w.if-lies_within.false))
       ],
       omega (arith, c.loop-g-test.true),
     )

@@ -1,11 +1,7 @@
 -- `pass` meets its contract. Before each turn the functions below g have been visited, or passed over.
-use mathlib.Core.Path.{sym, ◌∙◌}
-use mathlib.Core.Logic.{⊎_elim}
 use Prim.Native.Nat.{◌-◌, ◌≤◌}
-use native.Mathlib.Omega.{arith}
-use lib.ListN.{length}
-use Rattle.passes.specs.Mirror.{setup, Ready}
-use Rattle.passes.proofs.PassWays.{fits-ready, Covering, covering_start, covering_more, covering_over, covering_end}
+use Rattle.passes.specs.Mirror.{setup}
+use Rattle.passes.proofs.PassWays.{Covering}
 use Rattle.passes.proofs.pass.Given as goal
 
 abbrev pub invariant-loop-g : goal.invariant-loop-g

@@ -1,6 +1,6 @@
 -- The goals that are left.
 use mathlib.Core.Path.{◌≡◌, refl, ap, ◌∙◌}
-use Prim.Native.Nat.{ℕ, ◌+◌, ◌-◌, ◌<◌}
+use Prim.Native.Nat.{ℕ, ◌-◌, ◌<◌}
 use native.Mathlib.Omega.{arith}
 use lib.ListN.{length, get_or}
 use Rattle.decoding.specs.Decoding.{signature_in}
@@ -9,8 +9,8 @@ use Rattle.passes.specs.Digits.{firsts_of, lasts_of, AtCell}
 use Rattle.passes.specs.Mirror.{setup, size_from, count_of, last_of, low_of, high_of, width_of, size_of, RowReady}
 use Rattle.passes.proofs.Digits.{size_most, low_high}
 use Rattle.passes.proofs.PassWays.{stores_le, visited_length}
-use Rattle.passes.proofs.CellLoop.{count_few, width_some, row_inside, Stepping, stepping_start, stepping_ready, stepping_few, stepping_more, stepping_end}
-use Rattle.std.proofs.Common.{rules, ap, not}
+use Rattle.passes.proofs.CellLoop.{count_few, width_some, row_inside, stepping_start, stepping_ready, stepping_few, stepping_more, stepping_end}
+use Rattle.std.proofs.Common.{ap}
 use Rattle.passes.proofs.pass_function.Goals as goal
 
 pub count-count-requires : goal.count-count-requires

@@ -1,16 +1,13 @@
 -- The goals that are left.
 use mathlib.Core.Path.{refl, ◌∙◌}
-use Prim.Native.Nat.{◌+◌, ◌-◌, ◌<◌, ◌≤◌}
+use Prim.Native.Nat.{◌+◌}
 use native.Mathlib.Omega.{arith}
-use lib.ListN.{length}
 use Rattle.decoding.specs.Decoding.{signature_in}
-use Rattle.evaluator.specs.{digit_bound}
 use Rattle.passes.specs.Digits.{AtCell}
-use Rattle.passes.specs.Mirror.{setup, count_of, last_of, SameOthers}
+use Rattle.passes.specs.Mirror.{count_of}
 use Rattle.passes.proofs.Digits.{at_others}
-use Rattle.passes.proofs.PassWays.{Visited, visited_start, visited_length, visited_few, visited_more, visited_end}
+use Rattle.passes.proofs.PassWays.{visited_start, visited_length, visited_few, visited_more, visited_end}
 use Rattle.passes.proofs.CellLoop.{cell-few, digit-fits, row_at, row_inside}
-use Rattle.std.proofs.Common.{rules, ap, not}
 use Rattle.passes.proofs.row.Goals as goal
 
 pub loop-d-init : goal.loop-d-init
@@ -53,8 +50,7 @@ visit-stored-requires-clause-ready c =
     let u = c.requires.row_ready in
     let v = c.loop-d.invariant.0 in
     let values : AtCell (signature_in a.functions.now a.g) (count_of a.functions.now a.g) a.n (a.index + c.loop-d.d) c.loop-d.env (a.low + c.loop-d.d) =
-    at_others (row_at u c.requires.at_cell c.loop-d.d c.loop-d-test.true) c.loop-d.invariant.2 in
-    (
+    at_others (row_at u c.requires.at_cell c.loop-d.d c.loop-d-test.true) c.loop-d.invariant.2 in (
       record { below = u.ready.below; samples = u.ready.samples; within = omega (arith, u.ready.within, visited_length v) },
       omega (arith, visited_few v, c.requires.start_value.1, cell-few a.functions.now a.g values u.ready.samples),
     )

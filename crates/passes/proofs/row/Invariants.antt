@@ -1,16 +1,8 @@
 -- `row` meets its contract. Before each turn the cells of the row below d have been visited, and the values of the other parameters are as
 -- they were.
-use mathlib.Core.Path.{refl, ◌∙◌}
-use Prim.Native.Nat.{◌+◌, ◌-◌, ◌<◌, ◌≤◌}
-use native.Mathlib.Omega.{arith}
-use lib.ListN.{length}
-use Rattle.decoding.specs.Decoding.{signature_in}
-use Rattle.evaluator.specs.{digit_bound}
-use Rattle.passes.specs.Digits.{AtCell}
-use Rattle.passes.specs.Mirror.{setup, count_of, last_of, SameOthers}
-use Rattle.passes.proofs.Digits.{at_others}
-use Rattle.passes.proofs.PassWays.{Visited, visited_start, visited_length, visited_few, visited_more, visited_end}
-use Rattle.passes.proofs.CellLoop.{cell-few, digit-fits, row_at, row_inside}
+use Prim.Native.Nat.{◌-◌, ◌≤◌}
+use Rattle.passes.specs.Mirror.{setup, last_of, SameOthers}
+use Rattle.passes.proofs.PassWays.{Visited}
 use Rattle.passes.proofs.row.Given as goal
 
 abbrev pub invariant-loop-d : goal.invariant-loop-d

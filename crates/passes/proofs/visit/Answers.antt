@@ -1,14 +1,14 @@
 -- `visit` meets its contract: a decided cell is kept, and in an undecided one is stored what the body gives on the cell's values.
-use mathlib.Core.Path.{◌≡◌, refl, sym, ap, ◌∙◌}
+use mathlib.Core.Path.{◌≡◌, sym, ap, ◌∙◌}
 use mathlib.Core.List.{List}
-use Prim.Native.Nat.{ℕ, ◌<◌}
+use Prim.Native.Nat.{ℕ}
 use native.Mathlib.Omega.{arith}
-use lib.ListN.{length, set}
+use lib.ListN.{set}
 use lib.Seq.{set-set}
 use Rattle.passes.specs.Mirror.{setup, last_of, env_at}
 use Rattle.passes.proofs.PassWays.{held_here, visit_kept, visit_open}
 use Rattle.passes.proofs.CellLoop.{count_few, cell-inside, cell-few}
-use Rattle.std.proofs.Common.{rules, ap, not}
+use Rattle.std.proofs.Common.{ap}
 use Rattle.passes.proofs.visit.Goals as goal
 
 -- whatever is put in at a place, the other values are as they were

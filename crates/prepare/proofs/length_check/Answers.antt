@@ -1,7 +1,6 @@
 -- `length_check` meets its contract.
 use mathlib.Core.Path.{sym}
 use borrow.Author.Tests.{lt-ltb, le-ltb, eq-eqb, ne_eqb}
-use Rattle.std.proofs.Common.{rules, ap, not}
 use Rattle.prepare.proofs.length_check.Goals as goal
 
 pub returns-then-n-gt-MOST_SAMPLES : goal.returns-then-n-gt-MOST_SAMPLES

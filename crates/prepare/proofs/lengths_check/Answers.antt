@@ -1,6 +1,5 @@
 -- `lengths_check` meets its contract: the second trace is asked where the first passes.
 use mathlib.Core.Path.{sym, ◌∙◌}
-use Rattle.std.proofs.Common.{rules, ap, not}
 use Rattle.prepare.proofs.lengths_check.Goals as goal
 
 pub returns-in-Refused : goal.returns-in-Refused

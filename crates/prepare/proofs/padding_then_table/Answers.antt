@@ -1,6 +1,5 @@
 -- `padding_then_table` meets its contract: its tests are those of 23, of either trace, and of 21, in this order.
 use borrow.Author.Tests.{lt-ltb, le-ltb}
-use Rattle.std.proofs.Common.{rules, ap, not}
 use Rattle.prepare.proofs.padding_then_table.Goals as goal
 
 pub returns-then-ram : goal.returns-then-ram

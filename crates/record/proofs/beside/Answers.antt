@@ -1,7 +1,6 @@
 -- `beside` meets its contract.
 use native.Mathlib.Omega.{arith}
 use Rattle.trace.specs.{bytes_for}
-use Rattle.std.proofs.Common.{rules, ap, not}
 use Rattle.record.proofs.beside.Goals as goal
 
 pub overflow_add-result : goal.overflow_add-result

@@ -3,7 +3,7 @@ use mathlib.Core.Path.{ap, ◌∙◌}
 use Rattle.record.specs.declared.Examined.{Examined}
 use Rattle.record.specs.Checking.{checked_answer, examining}
 use Rattle.record.proofs.Examining.{checking_numbers}
-use Rattle.std.proofs.Common.{rules, ap, not}
+use Rattle.std.proofs.Common.{ap}
 use Rattle.record.proofs.check.Goals as goal
 
 pub returns-clause-answer : goal.returns-clause-answer

@@ -1,7 +1,6 @@
 -- `compare` meets its contract: both numbers are compared.
 use mathlib.Core.Path.{sym}
 use borrow.Author.Tests.{eq-eqb, ne_eqb}
-use Rattle.std.proofs.Common.{rules, ap, not}
 use Rattle.record.proofs.compare.Goals as goal
 
 pub returns-then-parts-verdict_number : goal.returns-then-parts-verdict_number

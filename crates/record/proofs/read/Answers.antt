@@ -1,7 +1,6 @@
 -- `read` meets its contract: the trailer, then the program.
 use mathlib.Core.Path.{sym, ◌∙◌}
 use Rattle.record.proofs.Answers.{located-refused, program-refused, program_passed, read_owed}
-use Rattle.std.proofs.Common.{rules, ap, not}
 use Rattle.record.proofs.read.Goals as goal
 
 pub returns-in-Refused-clause-answer : goal.returns-in-Refused-clause-answer

@@ -1,6 +1,5 @@
 -- `refused_by` meets its contract: the program's check decides whether the record is read.
 use mathlib.Core.Path.{sym, ◌∙◌}
-use Rattle.std.proofs.Common.{rules, ap, not}
 use Rattle.record.proofs.refused_by.Goals as goal
 
 pub returns-in-Refused : goal.returns-in-Refused

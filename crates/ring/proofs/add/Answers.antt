@@ -2,7 +2,6 @@
 use mathlib.Core.Path.{sym, ◌∙◌}
 use Rattle.ring.proofs.Checks.{check_sound}
 use Rattle.ring.proofs.Answers.{add-refused, add-stored}
-use Rattle.std.proofs.Common.{rules}
 use Rattle.ring.proofs.add.Goals as goal
 
 pub bounds-slots-next : goal.bounds-slots-next

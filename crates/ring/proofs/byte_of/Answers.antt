@@ -1,7 +1,6 @@
 -- `byte_of` meets its contract, by its two cases.
 use borrow.Author.Tests.{eq-eqb, ne_eqb}
 use Rattle.ring.specs.{sample_byte}
-use Rattle.std.proofs.Common.{rules}
 use Rattle.ring.proofs.byte_of.Goals as goal
 
 pub returns-then-sample-eq0 : goal.returns-then-sample-eq0

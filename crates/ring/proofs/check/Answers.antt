@@ -1,7 +1,6 @@
 -- `check` meets its contract: its tests are those of 18 and 19, in this order.
 use mathlib.Core.Path.{sym}
 use Rattle.ring.proofs.Checks.{check_empty, check_long, check_place, check_count, check_passed}
-use Rattle.std.proofs.Common.{rules}
 use Rattle.ring.proofs.check.Goals as goal
 
 pub returns-then-len-eq0 : goal.returns-then-len-eq0

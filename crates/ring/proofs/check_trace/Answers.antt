@@ -1,7 +1,6 @@
 -- `check_trace` meets its contract: the refusals of the ring, then 22.
 use mathlib.Core.Path.{sym, ◌∙◌}
 use Rattle.ring.proofs.Checks.{room-refused, room-short, room_enough}
-use Rattle.std.proofs.Common.{rules}
 use Rattle.ring.proofs.check_trace.Goals as goal
 
 pub returns-in-Refused : goal.returns-in-Refused

@@ -1,7 +1,6 @@
 -- `place` meets its contract; the sum is small, since a ring has at most 4,095 slots.
 use mathlib.Core.Path.{refl}
 use Rattle.ring.specs.Place.{place_before}
-use Rattle.std.proofs.Common.{rules}
 use Rattle.ring.proofs.place.Goals as goal
 
 pub returns : goal.returns

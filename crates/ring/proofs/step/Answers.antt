@@ -11,8 +11,8 @@ returns-then-ring-len c =
     let after = c.args.ring.next + 1 in
     let next : c.if-after-len.next ≡ following (eqb after c.args.len) after =
     elim c.if-after-len.branch [
-      then-after-len w ↦ simp (eq-eqb _ _ w.if-after-len.true) w.next-is
-    | else-after-len w ↦ simp (ne_eqb _ _ w.if-after-len.false) w.next-is
+      | then-after-len w ↦ simp (eq-eqb _ _ w.if-after-len.true) w.next-is
+      | else-after-len w ↦ simp (ne_eqb _ _ w.if-after-len.false) w.next-is
     ] in
     stepped_as c.args.len c.args.ring next (omega arith)
 
@@ -21,7 +21,7 @@ returns-else-ring-len c =
     let after = c.args.ring.next + 1 in
     let next : c.if-after-len.next ≡ following (eqb after c.args.len) after =
     elim c.if-after-len.branch [
-      then-after-len w ↦ simp (eq-eqb _ _ w.if-after-len.true) w.next-is
-    | else-after-len w ↦ simp (ne_eqb _ _ w.if-after-len.false) w.next-is
+      | then-after-len w ↦ simp (eq-eqb _ _ w.if-after-len.true) w.next-is
+      | else-after-len w ↦ simp (ne_eqb _ _ w.if-after-len.false) w.next-is
     ] in
     stepped_as c.args.len c.args.ring next (omega arith)

@@ -2,7 +2,6 @@
 use mathlib.Core.Path.{sym, ◌∙◌}
 use Rattle.ring.proofs.Checks.{room-sound}
 use Rattle.ring.proofs.Answers.{take-refused, take_done}
-use Rattle.std.proofs.Common.{rules}
 use Rattle.ring.proofs.take_trace.Goals as goal
 
 pub write_held-requires : goal.write_held-requires

@@ -1,13 +1,8 @@
 -- The goals that are left.
-use mathlib.Core.Path.{◌≡◌, refl}
-use Prim.Native.Nat.{◌-◌, ◌≤◌}
+use mathlib.Core.Path.{refl}
 use native.Mathlib.Omega.{arith}
-use lib.ListN.{take}
-use Rattle.trace.specs.{packed_into}
-use Rattle.ring.specs.{held}
 use Rattle.ring.proofs.Held.{place-within}
 use Rattle.ring.proofs.Written.{written_start, written_more, written_end, written_length}
-use Rattle.std.proofs.Common.{rules}
 use Rattle.ring.proofs.write_held.Goals as goal
 
 pub loop-back-init : goal.loop-back-init

@@ -1,12 +1,9 @@
 -- `write_held` meets its contract. With `back` samples to go, the output holds those before them, packed.
-use mathlib.Core.Path.{◌≡◌, refl}
+use mathlib.Core.Path.{◌≡◌}
 use Prim.Native.Nat.{◌-◌, ◌≤◌}
-use native.Mathlib.Omega.{arith}
 use lib.ListN.{take}
 use Rattle.trace.specs.{packed_into}
 use Rattle.ring.specs.{held}
-use Rattle.ring.proofs.Held.{place-within}
-use Rattle.ring.proofs.Written.{written_start, written_more, written_end, written_length}
 use Rattle.ring.proofs.write_held.Given as goal
 
 abbrev pub invariant-loop-back : goal.invariant-loop-back

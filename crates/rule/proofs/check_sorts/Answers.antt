@@ -1,7 +1,6 @@
 -- `check_sorts` meets its contract: 5, then 6, then the functions.
 use mathlib.Core.Path.{refl}
 use Rattle.rule.proofs.ProgramWays.{program-empty, program-long, program_none, program_many, program-other, program-counted, answer-refused, answered}
-use Rattle.std.proofs.Common.{rules}
 use Rattle.rule.proofs.check_sorts.Goals as goal
 
 pub returns-then-len-eq0-clause-check : goal.returns-then-len-eq0-clause-check

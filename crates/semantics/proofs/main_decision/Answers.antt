@@ -4,7 +4,6 @@ use mathlib.Core.Path.{◌≡◌, refl, sym, ap}
 use Rattle.semantics.specs.declared.Decision.TheVariants.{Forever}
 use Rattle.semantics.specs.Cells.{outcome_in}
 use Rattle.semantics.specs.Verdicts.{main_decision}
-use Rattle.std.proofs.Common.{rules}
 use Rattle.semantics.proofs.main_decision.Goals as goal
 
 other : (cell : ℕ) → (cell ≡ 1 → ⊥) → (cell ≡ 2 → ⊥) → (cell ≡ 3 → ⊥) → (cell ≡ 4 → ⊥) → Forever ≡ main_decision cell

@@ -3,7 +3,6 @@ use mathlib.Core.Path.{refl, sym}
 use native.Mathlib.Omega.{arith}
 use Rattle.trace.specs.{bit_of}
 use Rattle.trace.proofs.Bits.{bit_past}
-use Rattle.std.proofs.Common.{rules}
 use Rattle.trace.proofs.bit.Goals as goal
 
 pub returns-then-i-lt64 : goal.returns-then-i-lt64

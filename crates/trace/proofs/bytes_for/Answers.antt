@@ -1,7 +1,6 @@
 -- `bytes_for` meets its contract: rounding up by the remainder is adding 7 first. Assumes nothing.
 use native.Mathlib.Omega.{arith}
 use Rattle.trace.specs.{bytes_for}
-use Rattle.std.proofs.Common.{rules}
 use Rattle.trace.proofs.bytes_for.Goals as goal
 
 pub returns-then-n-eq0 : goal.returns-then-n-eq0

@@ -1,7 +1,6 @@
 -- `padding_set` meets its contract: a shift to the right by k leaves the bits from the k-th on.
 use mathlib.Core.Path.{sym}
 use Rattle.trace.proofs.Padding.{padding_whole, padding_told, padding_past}
-use Rattle.std.proofs.Common.{rules}
 use Rattle.trace.proofs.padding_set.Goals as goal
 
 pub returns-then-above-eq0 : goal.returns-then-above-eq0

@@ -5,7 +5,6 @@ use native.Mathlib.Omega.{arith}
 use lib.Pow.{pow_pos, pow_mono}
 use Rattle.trace.specs.{with_bit}
 use Rattle.trace.proofs.Bits.{weight_exact}
-use Rattle.std.proofs.Common.{rules}
 use Rattle.trace.proofs.placed.Goals as goal
 
 pub nonzero_rem-below : goal.nonzero_rem-below

@@ -2,7 +2,6 @@
 use mathlib.Core.Path.{refl}
 use Rattle.trace.specs.{bit_of, sample_at}
 use Rattle.trace.proofs.Packing.{sample_past}
-use Rattle.std.proofs.Common.{rules}
 use Rattle.trace.proofs.sample.Goals as goal
 
 pub returns-then-bytes-place : goal.returns-then-bytes-place

@@ -1,6 +1,5 @@
 -- `write` meets its contract: past the bytes a store changes nothing.
 use Rattle.trace.proofs.Packing.{write_past, write_stored}
-use Rattle.std.proofs.Common.{rules}
 use Rattle.trace.proofs.write.Goals as goal
 
 pub returns-then-bytes-at : goal.returns-then-bytes-at

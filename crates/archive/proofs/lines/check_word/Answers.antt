@@ -3,7 +3,7 @@ use mathlib.Core.Path.{sym, ap, ◌∙◌}
 use Rattle.encoding.specs.{decimal}
 use Rattle.encoding.proofs.Putting.{put_known}
 use Rattle.archive.specs.Listing.{check_word}
-use Rattle.std.proofs.Common.{rules, ap, not}
+use Rattle.std.proofs.Common.{ap}
 use Rattle.archive.proofs.lines.check_word.Goals as goal
 
 pub returns-in-Agrees-clause-place : goal.returns-in-Agrees-clause-place

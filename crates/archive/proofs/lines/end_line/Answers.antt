@@ -2,7 +2,6 @@
 use Rattle.encoding.specs.{decimal}
 use Rattle.encoding.proofs.Putting.{left-start, left-put, left_end}
 use Rattle.archive.specs.Listing.{end_word, field, end_line}
-use Rattle.std.proofs.Common.{rules, ap, not}
 use Rattle.archive.proofs.lines.end_line.Goals as goal
 
 pub returns-clause-place : goal.returns-clause-place

@@ -2,7 +2,6 @@
 use Rattle.encoding.specs.{decimal}
 use Rattle.archive.specs.Listing.{field}
 use Rattle.encoding.proofs.Putting.{left-start, left-put, left_end}
-use Rattle.std.proofs.Common.{rules, ap, not}
 use Rattle.archive.proofs.lines.field.Goals as goal
 
 pub returns-clause-place : goal.returns-clause-place

@@ -7,7 +7,7 @@ use lib.ListN.{length, take, drop, take-append-drop}
 use Rattle.encoding.specs.{put}
 use Rattle.encoding.proofs.Putting.{begins-start, room-put}
 use Rattle.archive.specs.Listing.{guard_field}
-use Rattle.std.proofs.Common.{rules, ap, not}
+use Rattle.std.proofs.Common.{ap}
 use Rattle.archive.proofs.lines.guard_field.Goals as goal
 
 -- an empty text

@@ -1,6 +1,5 @@
 -- `lines` meets its contract: before each turn the text of the bytes that are left is left to put.
-use Rattle.std.proofs.Common.{◌≡◌, length, take, sym, ap, ◌∙◌, arith, rules}
-use lib.Seq.{length-take-le}
+use Rattle.std.proofs.Common.{◌≡◌, length, take, ◌∙◌, arith, rules}
 use Rattle.encoding.proofs.Putting.{front_end}
 use Rattle.layout.specs.declared.Reading.TheVariants as read
 use Rattle.record.specs.Reading.{reading}

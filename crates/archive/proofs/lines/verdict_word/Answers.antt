@@ -3,7 +3,7 @@ use Prim.Native.Nat.{ℕ, zero, suc}
 use mathlib.Core.Path.{◌≡◌, refl, ap}
 use Rattle.encoding.proofs.Putting.{put_known}
 use Rattle.archive.specs.Listing.{verdict_word}
-use Rattle.std.proofs.Common.{rules, ap, not}
+use Rattle.std.proofs.Common.{ap}
 use Rattle.archive.proofs.lines.verdict_word.Goals as goal
 
 -- the last word is that of every other number

@@ -2,7 +2,6 @@
 use native.Mathlib.Omega.{arith}
 use Rattle.decoding.specs.Words.{function_word}
 use Rattle.codes.proofs.Bounds.{least_small}
-use Rattle.std.proofs.Common.{rules}
 use Rattle.decoding.proofs.functions.function.Goals as goal
 
 pub overflow_mul-result : goal.overflow_mul-result

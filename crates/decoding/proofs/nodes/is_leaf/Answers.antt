@@ -2,7 +2,6 @@
 use mathlib.Core.Path.{sym}
 use borrow.Author.Tests.{lt-ltb, le-ltb, eq-eqb, ne_eqb}
 use Rattle.decoding.specs.Words.{is_leaf}
-use Rattle.std.proofs.Common.{rules}
 use Rattle.decoding.proofs.nodes.is_leaf.Goals as goal
 
 pub returns-then-sort-lt-HEAD : goal.returns-then-sort-lt-HEAD

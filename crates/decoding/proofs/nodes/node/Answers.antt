@@ -1,7 +1,6 @@
 -- `node` meets its contract: each part fits into its bits.
 use mathlib.Core.Path.{refl}
 use Rattle.decoding.specs.Words.{packed}
-use Rattle.std.proofs.Common.{rules}
 use Rattle.decoding.proofs.nodes.node.Goals as goal
 
 pub returns : goal.returns

@@ -1,7 +1,6 @@
 -- `arguments` meets its contract, by its two cases.
 use native.Mathlib.Omega.{arith}
 use borrow.Author.Tests.{lt-ltb, le-ltb}
-use Rattle.std.proofs.Common.{rules}
 use Rattle.decoding.proofs.program.arguments.Goals as goal
 
 pub returns-then-g-ge32 : goal.returns-then-g-ge32

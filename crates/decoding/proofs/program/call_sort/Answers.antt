@@ -1,6 +1,5 @@
 -- `call_sort` meets its contract, by its cases.
 use borrow.Author.Tests.{eq-eqb, ne_eqb}
-use Rattle.std.proofs.Common.{rules}
 use Rattle.decoding.proofs.program.call_sort.Goals as goal
 
 pub returns-then-res-eq-GUARD : goal.returns-then-res-eq-GUARD

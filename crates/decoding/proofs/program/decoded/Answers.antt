@@ -1,7 +1,6 @@
 -- `decoded` meets its contract, by the kinds of nodes.
 use mathlib.Core.Path.{sym, ap, ◌∙◌}
 use Rattle.decoding.specs.Decoding.{decoded_by}
-use Rattle.std.proofs.Common.{rules}
 use Rattle.decoding.proofs.program.decoded.Goals as goal
 
 pub returns-in-False : goal.returns-in-False

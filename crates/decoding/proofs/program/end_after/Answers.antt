@@ -1,10 +1,7 @@
 -- The goals that are left.
-use Prim.Native.Nat.{◌<◌}
-use mathlib.Core.Path.{◌≡◌, refl}
+use mathlib.Core.Path.{refl}
 use native.Mathlib.Omega.{arith}
-use Rattle.decoding.specs.Decoding.{ends_after}
 use Rattle.decoding.proofs.Loops.{after_more, after_whole}
-use Rattle.std.proofs.Common.{rules}
 use Rattle.decoding.proofs.program.end_after.Goals as goal
 
 pub loop-left-init : goal.loop-left-init

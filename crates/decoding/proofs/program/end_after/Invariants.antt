@@ -1,9 +1,7 @@
 -- `end_after` meets its contract. Before each turn the operands that are left end where all of them end.
 use Prim.Native.Nat.{◌<◌}
-use mathlib.Core.Path.{◌≡◌, refl}
-use native.Mathlib.Omega.{arith}
+use mathlib.Core.Path.{◌≡◌}
 use Rattle.decoding.specs.Decoding.{ends_after}
-use Rattle.decoding.proofs.Loops.{after_more, after_whole}
 use Rattle.decoding.proofs.program.end_after.Given as goal
 
 abbrev pub invariant-loop-left : goal.invariant-loop-left

@@ -1,8 +1,6 @@
 -- `end_at` meets its contract.
 use mathlib.Core.Path.{refl}
-use native.Mathlib.Omega.{arith}
 use Rattle.decoding.specs.Decoding.{end_at}
-use Rattle.std.proofs.Common.{rules}
 use Rattle.decoding.proofs.program.end_at.Goals as goal
 
 pub returns : goal.returns

@@ -1,7 +1,6 @@
 -- `entry` meets its contract, by its two cases.
 use borrow.Author.Tests.{eq-eqb, ne_eqb}
 use Rattle.decoding.specs.Decoding.{entry_of}
-use Rattle.std.proofs.Common.{rules}
 use Rattle.decoding.proofs.program.entry.Goals as goal
 
 pub returns-then-i-eq0 : goal.returns-then-i-eq0

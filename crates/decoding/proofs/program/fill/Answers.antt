@@ -1,6 +1,5 @@
 -- `fill` meets its contract: the words of the functions come first, and the nodes after them.
 use Rattle.decoding.specs.Decoding.{words_filled}
-use Rattle.std.proofs.Common.{rules}
 use Rattle.decoding.proofs.program.fill.Goals as goal
 
 pub returns : goal.returns

@@ -1,10 +1,8 @@
 -- The goals that are left.
-use mathlib.Core.Path.{◌≡◌, refl, sym}
-use native.Mathlib.Omega.{arith}
+use mathlib.Core.Path.{refl, sym}
 use borrow.Author.Tests.{not-true, not-false}
-use Rattle.decoding.specs.Decoding.{leaves_in}
 use Rattle.decoding.proofs.Loops.{leaves_stop, leaves_more, leaves_whole}
-use Rattle.std.proofs.Common.{rules, ap, not}
+use Rattle.std.proofs.Common.{ap, not}
 use Rattle.decoding.proofs.program.leaves.Goals as goal
 
 pub loop-left-init : goal.loop-left-init

@@ -1,9 +1,6 @@
 -- `leaves` meets its contract. Before each turn those that are left tell whether all are leaves.
-use mathlib.Core.Path.{◌≡◌, refl, sym}
-use native.Mathlib.Omega.{arith}
-use borrow.Author.Tests.{not-true, not-false}
+use mathlib.Core.Path.{◌≡◌}
 use Rattle.decoding.specs.Decoding.{leaves_in}
-use Rattle.decoding.proofs.Loops.{leaves_stop, leaves_more, leaves_whole}
 use Rattle.decoding.proofs.program.leaves.Given as goal
 
 abbrev pub invariant-loop-left : goal.invariant-loop-left

@@ -1,7 +1,6 @@
 -- `operands` meets its contract, by the kinds of nodes.
 use mathlib.Core.Path.{sym, ap, ◌∙◌}
 use Rattle.decoding.specs.Decoding.{operands_of}
-use Rattle.std.proofs.Common.{rules}
 use Rattle.decoding.proofs.program.operands.Goals as goal
 
 pub returns-in-Call : goal.returns-in-Call

@@ -1,8 +1,6 @@
 -- The goals that are left.
-use Prim.Native.Nat.{◌-◌, ◌≤◌}
 use native.Mathlib.Omega.{arith}
-use Rattle.decoding.proofs.Loops.{Entered, entered_start, entered_more, entered_whole}
-use Rattle.std.proofs.Common.{rules}
+use Rattle.decoding.proofs.Loops.{entered_start, entered_more, entered_whole}
 use Rattle.decoding.proofs.program.put_functions.Goals as goal
 
 pub overflow_mul-last : goal.overflow_mul-last

@@ -1,7 +1,6 @@
 -- `put_functions` meets its contract. Before each turn the first k words are written.
 use Prim.Native.Nat.{◌-◌, ◌≤◌}
-use native.Mathlib.Omega.{arith}
-use Rattle.decoding.proofs.Loops.{Entered, entered_start, entered_more, entered_whole}
+use Rattle.decoding.proofs.Loops.{Entered}
 use Rattle.decoding.proofs.program.put_functions.Given as goal
 
 abbrev pub invariant-loop-k : goal.invariant-loop-k

@@ -1,8 +1,7 @@
 -- The goals that are left.
 use mathlib.Core.Path.{refl}
 use native.Mathlib.Omega.{arith}
-use Rattle.decoding.proofs.Loops.{Swept, swept_start, swept_more, swept_whole}
-use Rattle.std.proofs.Common.{rules}
+use Rattle.decoding.proofs.Loops.{swept_start, swept_more, swept_whole}
 use Rattle.decoding.proofs.program.put_nodes.Goals as goal
 
 pub loop-at-init : goal.loop-at-init

@@ -1,7 +1,5 @@
 -- `put_nodes` meets its contract. Before each turn the places from `at` on have their words and ends.
-use mathlib.Core.Path.{refl}
-use native.Mathlib.Omega.{arith}
-use Rattle.decoding.proofs.Loops.{Swept, swept_start, swept_more, swept_whole}
+use Rattle.decoding.proofs.Loops.{Swept}
 use Rattle.decoding.proofs.program.put_nodes.Given as goal
 
 abbrev pub invariant-loop-at : goal.invariant-loop-at

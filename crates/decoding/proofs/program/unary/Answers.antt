@@ -1,7 +1,6 @@
 -- `unary` meets its contract, by its two cases.
 use mathlib.Core.Path.{sym, ◌∙◌}
 use borrow.Author.Tests.{eq-eqb, ne_eqb}
-use Rattle.std.proofs.Common.{rules}
 use Rattle.decoding.proofs.program.unary.Goals as goal
 
 pub returns-then-sort-eq-PARAM : goal.returns-then-sort-eq-PARAM

@@ -1,5 +1,4 @@
 -- `with_operands` meets its contract: each operand begins where the one before it ends.
-use Rattle.std.proofs.Common.{rules}
 use Rattle.decoding.proofs.program.with_operands.Goals as goal
 
 pub returns : goal.returns

@@ -1,7 +1,6 @@
 -- `decide` meets its contract: the arrays are those of the program and the traces, so the passes leave what the rules say.
 use native.Mathlib.Omega.{arith}
 use Rattle.evaluate.proofs.Settling.{main-small, settled_within, settled_verdict}
-use Rattle.std.proofs.Common.{rules, ap, not}
 use Rattle.evaluate.proofs.decide.decide.Goals as goal
 
 pub offset_bounds-table-main_cell : goal.offset_bounds-table-main_cell
@@ -9,10 +8,10 @@ offset_bounds-table-main_cell c = omega (arith, c.main_cell.ensures, main-small 
 
 pub bounds-table-main_cell : goal.bounds-table-main_cell
 bounds-table-main_cell c = omega (
-      arith,
-      c.main_cell.ensures,
-      settled_within c.requires c.fill.ensures c.traces_of.ensures _ (omega arith) c.clear.ensures (c.run-passes.ensures.cells, c.run-passes.ensures.passes),
-    )
+  arith,
+  c.main_cell.ensures,
+  settled_within c.requires c.fill.ensures c.traces_of.ensures _ (omega arith) c.clear.ensures (c.run-passes.ensures.cells, c.run-passes.ensures.passes),
+)
 
 pub returns-clause-verdict : goal.returns-clause-verdict
 returns-clause-verdict c = (settled_verdict c.requires c.fill.ensures c.traces_of.ensures _ (omega arith) c.clear.ensures (c.run-passes.ensures.cells, c.run-passes.ensures.passes)

@@ -1,7 +1,6 @@
 -- `pass_once` meets its contract, as `decide` does, with one pass.
 use native.Mathlib.Omega.{arith}
 use Rattle.evaluate.proofs.Settling.{settled_pass}
-use Rattle.std.proofs.Common.{rules, ap, not}
 use Rattle.evaluate.proofs.decide.pass_once.Goals as goal
 
 pub returns-clause-stored : goal.returns-clause-stored

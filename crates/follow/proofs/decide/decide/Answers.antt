@@ -1,7 +1,6 @@
 -- `decide` meets its contract: the arrays are those of the program and the traces, so following over words comes to what the rules say.
 use native.Mathlib.Omega.{arith}
 use Rattle.follow.proofs.RunMeaning.{settled_calls, settled_followed}
-use Rattle.std.proofs.Common.{rules, ap, not}
 use Rattle.follow.proofs.decide.decide.Goals as goal
 
 pub overflow_cast-result : goal.overflow_cast-result

@@ -2,7 +2,7 @@
 use mathlib.Core.Path.{ap, ◌∙◌}
 use Rattle.evaluator.specs.{eval_word}
 use Rattle.follow.specs.Mirror.{arg_by}
-use Rattle.std.proofs.Common.{rules, ap, not}
+use Rattle.std.proofs.Common.{ap}
 use Rattle.follow.proofs.run.argument.Goals as goal
 
 pub returns-then-there : goal.returns-then-there

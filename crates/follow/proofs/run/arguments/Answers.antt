@@ -2,7 +2,6 @@
 use mathlib.Core.Path.{sym}
 use borrow.Author.Tests.{eq-eqb, ne_eqb}
 use Rattle.follow.specs.Mirror.{args_stop_at, args_left_at}
-use Rattle.std.proofs.Common.{rules, ap, not}
 use Rattle.follow.proofs.run.arguments.Goals as goal
 
 pub returns-then-sort-eq-CALL_ONE-clause-stop : goal.returns-then-sort-eq-CALL_ONE-clause-stop

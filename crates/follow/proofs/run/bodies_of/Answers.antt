@@ -1,10 +1,7 @@
 -- The goals that are left.
-use Prim.Native.Nat.{◌-◌, ◌≤◌}
 use mathlib.Core.Path.{◌≡◌}
 use native.Mathlib.Omega.{arith}
-use Rattle.follow.specs.Mirror.{BodiesUpto}
 use Rattle.follow.proofs.Ways.{bodies_none, bodies_more}
-use Rattle.std.proofs.Common.{rules, ap, not}
 use Rattle.follow.proofs.run.bodies_of.Goals as goal
 
 pub loop-g-init : goal.loop-g-init

@@ -1,9 +1,6 @@
 -- `bodies_of` meets its contract. Before each turn the first g bodies have their words.
 use Prim.Native.Nat.{◌-◌, ◌≤◌}
-use mathlib.Core.Path.{◌≡◌}
-use native.Mathlib.Omega.{arith}
 use Rattle.follow.specs.Mirror.{BodiesUpto}
-use Rattle.follow.proofs.Ways.{bodies_none, bodies_more}
 use Rattle.follow.proofs.run.bodies_of.Given as goal
 
 abbrev pub invariant-loop-g : goal.invariant-loop-g

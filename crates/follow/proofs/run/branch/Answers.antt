@@ -1,7 +1,6 @@
 -- `branch` meets its contract, by the condition's outcome.
 use borrow.Author.Tests.{eq-eqb, ne_eqb}
 use Rattle.follow.specs.Mirror.{branch_word}
-use Rattle.std.proofs.Common.{rules, ap, not}
 use Rattle.follow.proofs.run.branch.Goals as goal
 
 pub returns-then-chosen-eq-TRUE : goal.returns-then-chosen-eq-TRUE

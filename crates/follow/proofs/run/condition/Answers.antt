@@ -1,8 +1,7 @@
 -- `condition` meets its contract, by the sorts of ifs.
-use mathlib.Core.Path.{sym, ap, ◌∙◌}
+use mathlib.Core.Path.{sym}
 use borrow.Author.Tests.{eq-eqb, ne_eqb}
 use Rattle.follow.specs.Mirror.{condition_by}
-use Rattle.std.proofs.Common.{rules, ap, not}
 use Rattle.follow.proofs.run.condition.Goals as goal
 
 pub returns-then-sort-eq-IF_NULL : goal.returns-then-sort-eq-IF_NULL

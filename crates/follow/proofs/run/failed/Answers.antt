@@ -1,6 +1,5 @@
 -- `failed` meets its contract, by the numbers of both errors.
 use borrow.Author.Tests.{eq-eqb, ne_eqb}
-use Rattle.std.proofs.Common.{rules, ap, not}
 use Rattle.follow.proofs.run.failed.Goals as goal
 
 pub returns-then-number-eq-HEAD : goal.returns-then-number-eq-HEAD

@@ -1,6 +1,5 @@
 -- `is_if` meets its contract: the sorts of ifs are those from the first on to that of a call.
 use borrow.Author.Tests.{lt-ltb, le-ltb}
-use Rattle.std.proofs.Common.{rules, ap, not}
 use Rattle.follow.proofs.run.is_if.Goals as goal
 
 pub returns-then-sort-lt-IF : goal.returns-then-sort-lt-IF

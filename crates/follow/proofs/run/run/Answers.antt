@@ -1,8 +1,6 @@
 -- The goals that are left.
-use Prim.Native.Nat.{◌-◌}
 use native.Mathlib.Omega.{arith}
-use Rattle.follow.proofs.Ways.{Following, following-start, following-plain, following-stop, following-more, following_end}
-use Rattle.std.proofs.Common.{rules, ap, not}
+use Rattle.follow.proofs.Ways.{following-start, following-plain, following-stop, following-more, following_end}
 use Rattle.follow.proofs.run.run.Goals as goal
 
 pub loop-calls-init : goal.loop-calls-init

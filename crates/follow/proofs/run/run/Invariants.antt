@@ -1,7 +1,6 @@
 -- `run` meets its contract. Before each turn the calls made have led to a body on some values.
 use Prim.Native.Nat.{◌-◌}
-use native.Mathlib.Omega.{arith}
-use Rattle.follow.proofs.Ways.{Following, following-start, following-plain, following-stop, following-more, following_end}
+use Rattle.follow.proofs.Ways.{Following}
 use Rattle.follow.proofs.run.run.Given as goal
 
 abbrev pub invariant-loop-calls : goal.invariant-loop-calls

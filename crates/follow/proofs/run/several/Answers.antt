@@ -1,6 +1,5 @@
 -- `several` meets its contract: the arguments have values one after the other, or one fails.
 use Rattle.follow.proofs.Ways.{first_fails, second_fails, third_fails, fourth_fails, all-put}
-use Rattle.std.proofs.Common.{rules, ap, not}
 use Rattle.follow.proofs.run.several.Goals as goal
 
 pub returns-then-failed-clause-stop : goal.returns-then-failed-clause-stop

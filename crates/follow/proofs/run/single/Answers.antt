@@ -1,6 +1,5 @@
 -- `single` meets its contract: the argument has a value, or fails.
 use Rattle.follow.proofs.Ways.{single_fails, single_put}
-use Rattle.std.proofs.Common.{rules, ap, not}
 use Rattle.follow.proofs.run.single.Goals as goal
 
 pub returns-then-failed-clause-stop : goal.returns-then-failed-clause-stop

@@ -1,12 +1,9 @@
 -- The goals that are left.
-use Prim.Native.Nat.{◌-◌, ◌<◌, ◌≤◌}
 use native.Mathlib.Omega.{arith}
-use mathlib.Core.Path.{◌≡◌, refl, ◌∙◌}
+use mathlib.Core.Path.{refl, ◌∙◌}
 use borrow.Author.Tests.{not-true, not-false}
-use Rattle.syntax.specs.Limits.{most_depth}
-use Rattle.follow.specs.Mirror.{spine_of}
 use Rattle.follow.proofs.Ways.{spine_end, spine_here, spine_on}
-use Rattle.std.proofs.Common.{rules, ap, not}
+use Rattle.std.proofs.Common.{ap, not}
 use Rattle.follow.proofs.run.spine.Goals as goal
 
 pub loop-left-init : goal.loop-left-init

@@ -1,11 +1,8 @@
 -- `spine` meets its contract. Before each turn the node that is left comes to what the body comes to.
-use Prim.Native.Nat.{◌-◌, ◌<◌, ◌≤◌}
-use native.Mathlib.Omega.{arith}
-use mathlib.Core.Path.{◌≡◌, refl, ◌∙◌}
-use borrow.Author.Tests.{not-true, not-false}
+use Prim.Native.Nat.{◌≤◌}
+use mathlib.Core.Path.{◌≡◌}
 use Rattle.syntax.specs.Limits.{most_depth}
 use Rattle.follow.specs.Mirror.{spine_of}
-use Rattle.follow.proofs.Ways.{spine_end, spine_here, spine_on}
 use Rattle.follow.proofs.run.spine.Given as goal
 
 abbrev pub invariant-loop-left : goal.invariant-loop-left

@@ -4,7 +4,7 @@ use native.Mathlib.Omega.{arith}
 use borrow.Author.Tests.{le-leb, lt-leb}
 use Rattle.codes.specs.{lowest_code}
 use Rattle.codes.proofs.Bounds.{lowest_small}
-use Rattle.std.proofs.Common.{rules, ap, not}
+use Rattle.std.proofs.Common.{ap}
 use Rattle.passes.proofs.configurations.first_value.Goals as goal
 
 pub returns-then-count-i : goal.returns-then-count-i

@@ -1,6 +1,5 @@
 -- `first_values` meets its contract.
 use mathlib.Core.Path.{refl}
-use Rattle.std.proofs.Common.{rules, ap, not}
 use Rattle.passes.proofs.configurations.first_values.Goals as goal
 
 pub returns : goal.returns

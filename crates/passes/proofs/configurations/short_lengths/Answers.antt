@@ -1,6 +1,5 @@
 -- `short_lengths` meets its contract, by its two cases.
 use Rattle.passes.proofs.PassWays.{short-ram, short-guard}
-use Rattle.std.proofs.Common.{rules, ap, not}
 use Rattle.passes.proofs.configurations.short_lengths.Goals as goal
 
 pub returns-then-n-gt-MOST_SAMPLES : goal.returns-then-n-gt-MOST_SAMPLES

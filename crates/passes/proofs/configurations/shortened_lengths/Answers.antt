@@ -1,5 +1,4 @@
 -- `shortened_lengths` meets its contract: each length is cut by itself.
-use Rattle.std.proofs.Common.{rules, ap, not}
 use Rattle.passes.proofs.configurations.shortened_lengths.Goals as goal
 
 pub returns : goal.returns

@@ -1,7 +1,6 @@
 -- The goals that are left.
 use native.Mathlib.Omega.{arith}
-use Rattle.passes.proofs.SetupLoops.{Product, size-start, size-more, size_fits, size-whole}
-use Rattle.std.proofs.Common.{rules, ap, not}
+use Rattle.passes.proofs.SetupLoops.{size-start, size-more, size_fits, size-whole}
 use Rattle.passes.proofs.configurations.size.Goals as goal
 
 pub loop-i-init : goal.loop-i-init

@@ -1,6 +1,5 @@
 -- `size` meets its contract. Before each turn the product is that of the parameters from i on.
-use native.Mathlib.Omega.{arith}
-use Rattle.passes.proofs.SetupLoops.{Product, size-start, size-more, size_fits, size-whole}
+use Rattle.passes.proofs.SetupLoops.{Product}
 use Rattle.passes.proofs.configurations.size.Given as goal
 
 abbrev pub invariant-loop-i : goal.invariant-loop-i

@@ -1,11 +1,10 @@
 -- The goals that are left.
-use mathlib.Core.Path.{◌≡◌, refl, sym, ap, ◌∙◌}
-use Prim.Native.Nat.{ℕ, ◌-◌, ◌≤◌}
+use mathlib.Core.Path.{refl, sym, ap, ◌∙◌}
+use Prim.Native.Nat.{ℕ, ◌-◌}
 use native.Mathlib.Omega.{arith}
 use lib.ListN.{set}
-use Rattle.passes.specs.Mirror.{stepped}
 use Rattle.passes.proofs.Digits.{step_stops, step_goes, step_whole, row_over}
-use Rattle.std.proofs.Common.{rules, ap, not}
+use Rattle.std.proofs.Common.{ap}
 use Rattle.passes.proofs.configurations.step.Goals as goal
 
 pub loop-i-init : goal.loop-i-init

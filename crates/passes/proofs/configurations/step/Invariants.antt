@@ -1,10 +1,7 @@
 -- `step` meets its contract. Before each turn what is left to step are the parameters below i.
-use mathlib.Core.Path.{◌≡◌, refl, sym, ap, ◌∙◌}
-use Prim.Native.Nat.{ℕ, ◌-◌, ◌≤◌}
-use native.Mathlib.Omega.{arith}
-use lib.ListN.{set}
+use mathlib.Core.Path.{◌≡◌}
+use Prim.Native.Nat.{◌≤◌}
 use Rattle.passes.specs.Mirror.{stepped}
-use Rattle.passes.proofs.Digits.{step_stops, step_goes, step_whole, row_over}
 use Rattle.passes.proofs.configurations.step.Given as goal
 
 abbrev pub invariant-loop-i : goal.invariant-loop-i

@@ -1,9 +1,6 @@
 -- The goals that are left.
-use Prim.Native.Nat.{◌-◌, ◌≤◌}
 use native.Mathlib.Omega.{arith}
-use Rattle.passes.specs.Mirror.{heads}
-use Rattle.passes.proofs.SetupLoops.{short-shortened, Listed, listed_start, listed_more, cells_listed}
-use Rattle.std.proofs.Common.{rules, ap, not}
+use Rattle.passes.proofs.SetupLoops.{short-shortened, listed_start, listed_more, cells_listed}
 use Rattle.passes.proofs.setup.cells_of.Goals as goal
 
 pub loop-g-init : goal.loop-g-init

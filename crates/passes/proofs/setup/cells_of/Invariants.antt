@@ -1,8 +1,7 @@
 -- `cells_of` meets its contract. Before turn g the array and the total are those of the functions before g.
 use Prim.Native.Nat.{◌-◌, ◌≤◌}
-use native.Mathlib.Omega.{arith}
 use Rattle.passes.specs.Mirror.{heads}
-use Rattle.passes.proofs.SetupLoops.{short-shortened, Listed, listed_start, listed_more, cells_listed}
+use Rattle.passes.proofs.SetupLoops.{Listed}
 use Rattle.passes.proofs.setup.cells_of.Given as goal
 
 abbrev pub invariant-loop-g : goal.invariant-loop-g

@@ -1,11 +1,10 @@
 -- The goals that are left.
-use Prim.Native.Nat.{◌+◌, ◌-◌, ◌≤◌, ◌<◌}
+use Prim.Native.Nat.{◌+◌, ◌≤◌, ◌<◌}
 use native.Mathlib.Omega.{arith}
 use lib.ListN.{length, take, length-take}
 use lib.Seq.{get_or-take}
 use Rattle.codes.specs.{most_trace_bytes}
-use Rattle.rule.proofs.Copying.{Copied, copied_start, copied_more, copied_whole, copied_length}
-use Rattle.std.proofs.Common.{rules, ap, not}
+use Rattle.rule.proofs.Copying.{copied_start, copied_more, copied_whole, copied_length}
 use Rattle.passes.proofs.setup.copy.Goals as goal
 
 pub loop-i-init : goal.loop-i-init

@@ -1,10 +1,8 @@
 -- `copy` meets its contract. Before each turn the first i bytes have been copied.
-use Prim.Native.Nat.{◌+◌, ◌-◌, ◌≤◌, ◌<◌}
-use native.Mathlib.Omega.{arith}
-use lib.ListN.{length, take, length-take}
-use lib.Seq.{get_or-take}
+use Prim.Native.Nat.{◌-◌}
+use lib.ListN.{take}
 use Rattle.codes.specs.{most_trace_bytes}
-use Rattle.rule.proofs.Copying.{Copied, copied_start, copied_more, copied_whole, copied_length}
+use Rattle.rule.proofs.Copying.{Copied}
 use Rattle.passes.proofs.setup.copy.Given as goal
 
 abbrev pub invariant-loop-i : goal.invariant-loop-i

@@ -1,6 +1,5 @@
 -- `traces_of` meets its contract: the bytes of each trace are copied into zeros.
 use Rattle.passes.proofs.SetupLoops.{traces-whole}
-use Rattle.std.proofs.Common.{rules, ap, not}
 use Rattle.passes.proofs.setup.traces_of.Goals as goal
 
 pub returns : goal.returns

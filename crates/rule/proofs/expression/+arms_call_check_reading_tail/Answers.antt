@@ -1,12 +1,10 @@
-use Prim.Native.Nat.{ℕ, ◌+◌, ◌-◌, ◌*◌, ◌<◌}
-use mathlib.Core.Path.{◌≡◌, sym, ap, ◌∙◌}
+use Prim.Native.Nat.{◌<◌}
+use mathlib.Core.Path.{sym, ap, ◌∙◌}
 use native.Mathlib.Omega.{arith}
-use Rattle.syntax.specs.declared.Node.{Node}
 use Rattle.syntax.specs.Limits.{most_functions}
-use Rattle.rule.specs.Walk.{kinds_place, guards_place, frame_in, demand_for, at_most_four, check_at, read_at, tail_at, arms_at, call_walked_at, node_walked}
+use Rattle.rule.specs.Walk.{kinds_place, guards_place, demand_for, at_most_four, check_at, read_at, tail_at, arms_at, call_walked_at}
 use Rattle.rule.proofs.Walking.{params_in, header_in, check_end, check_deep, check_node, read_of, read-not, tail_of_lem, tail-not, call_none, call-not, call-args}
-use Rattle.rule.proofs.Walking.{Along, along_start, along_end, along_more}
-use Rattle.std.proofs.Common.{rules}
+use Rattle.rule.proofs.Walking.{along_start, along_end, along_more}
 use Rattle.rule.proofs.expression.+arms_call_check_reading_tail.Goals as goal
 
 pub arms-check-second-requires : goal.arms-check-second-requires

@@ -1,12 +1,7 @@
 -- `check` and the functions that it calls meet their contracts. A node takes 2 of the measure, which is the depth left.
-use Prim.Native.Nat.{ℕ, ◌+◌, ◌-◌, ◌*◌, ◌<◌}
-use mathlib.Core.Path.{◌≡◌, sym, ap, ◌∙◌}
-use native.Mathlib.Omega.{arith}
-use Rattle.syntax.specs.declared.Node.{Node}
-use Rattle.syntax.specs.Limits.{most_functions}
-use Rattle.rule.specs.Walk.{kinds_place, guards_place, frame_in, demand_for, at_most_four, check_at, read_at, tail_at, arms_at, call_walked_at, node_walked}
-use Rattle.rule.proofs.Walking.{params_in, header_in, check_end, check_deep, check_node, read_of, read-not, tail_of_lem, tail-not, call_none, call-not, call-args}
-use Rattle.rule.proofs.Walking.{Along, along_start, along_end, along_more}
+use Prim.Native.Nat.{◌+◌, ◌-◌, ◌*◌}
+use Rattle.rule.specs.Walk.{frame_in, check_at}
+use Rattle.rule.proofs.Walking.{Along}
 use Rattle.rule.proofs.expression.+arms_call_check_reading_tail.Given as goal
 
 abbrev pub decreases-arms : goal.decreases-arms

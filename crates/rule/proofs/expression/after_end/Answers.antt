@@ -1,7 +1,6 @@
 -- `after_end` meets its contract, by its two cases.
 use mathlib.Core.Path.{◌∙◌}
 use borrow.Author.Tests.{lt-ltb, le-ltb}
-use Rattle.std.proofs.Common.{rules}
 use Rattle.rule.proofs.expression.after_end.Goals as goal
 
 pub returns-then-at-lt-STOPS : goal.returns-then-at-lt-STOPS

@@ -1,5 +1,4 @@
 -- `allowed` meets its contract: a bit of the place says it.
-use Rattle.std.proofs.Common.{rules}
 use Rattle.rule.proofs.expression.allowed.Goals as goal
 
 pub returns : goal.returns

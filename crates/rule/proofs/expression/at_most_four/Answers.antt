@@ -1,7 +1,6 @@
 -- `at_most_four` meets its contract, by its two cases.
 use native.Mathlib.Omega.{arith}
 use borrow.Author.Tests.{lt-ltb, le-ltb}
-use Rattle.std.proofs.Common.{rules}
 use Rattle.rule.proofs.expression.at_most_four.Goals as goal
 
 pub returns-then-count-lt5 : goal.returns-then-count-lt5

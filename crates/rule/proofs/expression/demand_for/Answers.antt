@@ -1,7 +1,6 @@
 -- `demand_for` meets its contract, by its three cases.
 use native.Mathlib.Omega.{arith}
 use borrow.Author.Tests.{eq-eqb, ne_eqb}
-use Rattle.std.proofs.Common.{rules}
 use Rattle.rule.proofs.expression.demand_for.Goals as goal
 
 pub returns-then-kind-eq-TRUTH : goal.returns-then-kind-eq-TRUTH

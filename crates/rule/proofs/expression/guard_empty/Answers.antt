@@ -2,7 +2,6 @@
 use mathlib.Core.Path.{◌∙◌}
 use borrow.Author.Tests.{eq-eqb, ne_eqb}
 use Rattle.rule.specs.Walk.{guard_empty_walked}
-use Rattle.std.proofs.Common.{rules}
 use Rattle.rule.proofs.expression.guard_empty.Goals as goal
 
 pub returns-then-contacts-eq2 : goal.returns-then-contacts-eq2

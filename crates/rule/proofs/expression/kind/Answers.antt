@@ -1,5 +1,4 @@
 -- `kind` meets its contract: the two bits say the kind.
-use Rattle.std.proofs.Common.{rules}
 use Rattle.rule.proofs.expression.kind.Goals as goal
 
 pub returns : goal.returns

@@ -1,7 +1,6 @@
 -- `leaf` meets its contract, by its two cases.
 use mathlib.Core.Path.{sym, ◌∙◌}
 use Rattle.rule.specs.Walk.{leaf_walked}
-use Rattle.std.proofs.Common.{rules}
 use Rattle.rule.proofs.expression.leaf.Goals as goal
 
 pub returns-then-allowed : goal.returns-then-allowed

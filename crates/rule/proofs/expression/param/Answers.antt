@@ -1,7 +1,6 @@
 -- `param` meets its contract, by its two cases.
 use mathlib.Core.Path.{◌∙◌}
 use Rattle.rule.proofs.Walking.{param_there, param_absent}
-use Rattle.std.proofs.Common.{rules}
 use Rattle.rule.proofs.expression.param.Goals as goal
 
 pub returns-then-i-own_params : goal.returns-then-i-own_params

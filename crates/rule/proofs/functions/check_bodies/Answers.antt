@@ -1,11 +1,9 @@
 -- The goals that are left.
 use mathlib.Core.Path.{sym, ap, ◌∙◌}
 use mathlib.Core.List.{[]}
-use Prim.Native.Nat.{◌-◌}
 use native.Mathlib.Omega.{arith}
-use Rattle.rule.specs.Walk.{Frame, frame_at, body_at}
-use Rattle.rule.proofs.BodyWays.{part_short, Going, going_start, going_stop, going_more, going_end}
-use Rattle.std.proofs.Common.{rules}
+use Rattle.rule.specs.Walk.{Frame, body_at}
+use Rattle.rule.proofs.BodyWays.{part_short, going_start, going_stop, going_more, going_end}
 use Rattle.rule.proofs.functions.check_bodies.Goals as goal
 
 pub loop-i-init : goal.loop-i-init
@@ -13,10 +11,10 @@ loop-i-init c = going_start _ _
 
 pub overflow_cast-start : goal.overflow_cast-start
 overflow_cast-start c = omega (
-      arith,
-      c.requires.ordered c.loop-i.i c.loop-i-test.true,
-      c.requires.within c.loop-i.i c.loop-i-test.true,
-    )
+  arith,
+  c.requires.ordered c.loop-i.i c.loop-i-test.true,
+  c.requires.within c.loop-i.i c.loop-i-test.true,
+)
 
 pub overflow_cast-end : goal.overflow_cast-end
 overflow_cast-end c = omega (arith, c.requires.within c.loop-i.i c.loop-i-test.true)

@@ -1,7 +1,6 @@
 -- `check_body` meets its contract: the expression, then nothing after it.
 use Rattle.rule.proofs.BodyWays.{body_passed, body_after, body-stopped}
 use native.Mathlib.Omega.{arith}
-use Rattle.std.proofs.Common.{rules}
 use Rattle.rule.proofs.functions.check_body.Goals as goal
 
 pub overflow_add-place : goal.overflow_add-place

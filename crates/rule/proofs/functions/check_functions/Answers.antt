@@ -1,5 +1,5 @@
 -- `check_functions` meets its contract: the headers, 10, 11, then the bodies.
-use Rattle.std.proofs.Common.{◌≡◌, sym, ◌∙◌}
+use Rattle.std.proofs.Common.{sym, ◌∙◌}
 use Rattle.rule.proofs.ProgramWays.{answer-refused}
 use Rattle.rule.proofs.FunctionWays.{Read, scan_stopped, scan_read, bytes_after, main_bits_lem, wrong_main, bodies_placed, bodies_refused, all_passed}
 use Rattle.rule.proofs.functions.check_functions.Goals as goal

@@ -1,9 +1,6 @@
 -- The goals that are left.
-use Prim.Native.Nat.{◌-◌}
 use native.Mathlib.Omega.{arith}
-use lib.ListN.{length}
-use Rattle.rule.proofs.Copying.{Copied, copied_start, copied_more, copied_whole, copied_length}
-use Rattle.std.proofs.Common.{rules}
+use Rattle.rule.proofs.Copying.{copied_start, copied_more, copied_whole, copied_length}
 use Rattle.rule.proofs.functions.copy.Goals as goal
 
 pub loop-i-init : goal.loop-i-init

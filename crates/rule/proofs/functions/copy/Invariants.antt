@@ -1,8 +1,7 @@
 -- `copy` meets its contract. Before turn i the first i bytes have been copied.
 use Prim.Native.Nat.{◌-◌}
-use native.Mathlib.Omega.{arith}
 use lib.ListN.{length}
-use Rattle.rule.proofs.Copying.{Copied, copied_start, copied_more, copied_whole, copied_length}
+use Rattle.rule.proofs.Copying.{Copied}
 use Rattle.rule.proofs.functions.copy.Given as goal
 
 abbrev pub invariant-loop-i : goal.invariant-loop-i

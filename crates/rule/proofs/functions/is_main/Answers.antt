@@ -7,7 +7,6 @@ use Rattle.semantics.specs.declared.Sort.{Sort}
 use Rattle.semantics.specs.declared.Sort.TheVariants.{One, Two}
 use Rattle.syntax.specs.Kinds.{truth_kind, ram_kind}
 use Rattle.rule.specs.Walk.{kind_of, main_bits}
-use Rattle.std.proofs.Common.{rules}
 use Rattle.rule.proofs.functions.is_main.Goals as goal
 
 module _ (params kinds guard : ℕ) where
@@ -27,25 +26,25 @@ returns-then-kind-ne-TRUTH c = not-truth _ _ _ c.args.sort c.kind-2.ensures c.if
 
 pub returns-in-One : goal.returns-in-One
 returns-in-One c = simp (
-      c.in-One.is,
-      ← c.kind.ensures,
-      ← c.kind-2.ensures,
-      eq-eqb _ _ c.if-kind-ne-RAM.false,
-      eq-eqb _ _ c.if-kind-ne-TRUTH.false,
-      and-true,
-    )
+  c.in-One.is,
+  ← c.kind.ensures,
+  ← c.kind-2.ensures,
+  eq-eqb _ _ c.if-kind-ne-RAM.false,
+  eq-eqb _ _ c.if-kind-ne-TRUTH.false,
+  and-true,
+)
 
 pub returns-then-params-eq2 : goal.returns-then-params-eq2
 returns-then-params-eq2 c = simp (
-      c.in-Two.is,
-      ← c.kind.ensures,
-      ← c.kind-2.ensures,
-      ← c.kind-then-params-eq2.ensures,
-      eq-eqb _ _ c.if-kind-ne-RAM.false,
-      eq-eqb _ _ c.if-kind-ne-TRUTH.false,
-      eq-eqb _ _ c.if-params-eq2.true,
-      and-true,
-    )
+  c.in-Two.is,
+  ← c.kind.ensures,
+  ← c.kind-2.ensures,
+  ← c.kind-then-params-eq2.ensures,
+  eq-eqb _ _ c.if-kind-ne-RAM.false,
+  eq-eqb _ _ c.if-kind-ne-TRUTH.false,
+  eq-eqb _ _ c.if-params-eq2.true,
+  and-true,
+)
 
 pub returns-else-params-eq2 : goal.returns-else-params-eq2
 returns-else-params-eq2 c = simp (c.in-Two.is, ne_eqb _ _ c.if-params-eq2.false)

@@ -2,7 +2,6 @@
 use mathlib.Core.Path.{refl}
 use Rattle.rule.specs.Form.{padded}
 use Rattle.rule.specs.Outline.{starts_from, ends_from, outline_of}
-use Rattle.std.proofs.Common.{rules}
 use Rattle.rule.proofs.functions.no_functions.Goals as goal
 
 pub returns : goal.returns

@@ -1,11 +1,7 @@
 -- The goals that are left.
 use mathlib.Core.Path.{sym, ◌∙◌}
-use Prim.Native.Nat.{◌+◌, ◌-◌, ◌≤◌}
 use native.Mathlib.Omega.{arith}
-use lib.ListN.{length}
-use Rattle.syntax.specs.Limits.{most_body}
-use Rattle.rule.proofs.Scanning.{Scanned, scanned_start, scanned_stop, scanned_more, next_fits, scan_refused, scan_passed}
-use Rattle.std.proofs.Common.{rules}
+use Rattle.rule.proofs.Scanning.{scanned_start, scanned_stop, scanned_more, next_fits, scan_refused, scan_passed}
 use Rattle.rule.proofs.functions.scan_headers.Goals as goal
 
 pub loop-i-init : goal.loop-i-init

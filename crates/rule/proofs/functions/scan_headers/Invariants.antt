@@ -1,10 +1,6 @@
 -- `scan_headers` meets its contract. Before turn i the arrays hold the outline of the functions before it.
-use mathlib.Core.Path.{sym, ◌∙◌}
-use Prim.Native.Nat.{◌+◌, ◌-◌, ◌≤◌}
-use native.Mathlib.Omega.{arith}
-use lib.ListN.{length}
-use Rattle.syntax.specs.Limits.{most_body}
-use Rattle.rule.proofs.Scanning.{Scanned, scanned_start, scanned_stop, scanned_more, next_fits, scan_refused, scan_passed}
+use Prim.Native.Nat.{◌-◌}
+use Rattle.rule.proofs.Scanning.{Scanned}
 use Rattle.rule.proofs.functions.scan_headers.Given as goal
 
 abbrev pub invariant-loop-i : goal.invariant-loop-i

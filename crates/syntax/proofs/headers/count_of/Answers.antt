@@ -1,6 +1,5 @@
 -- `count_of` meets its contract: its test is that of the mark.
 use borrow.Author.Tests.{lt-ltb, le-ltb}
-use Rattle.std.proofs.Common.{rules}
 use Rattle.syntax.proofs.headers.count_of.Goals as goal
 
 pub returns-then-byte-lt-TWO_MARK : goal.returns-then-byte-lt-TWO_MARK

@@ -1,7 +1,6 @@
 -- `guard_byte` meets its contract: of two contacts it is byte 2 from the place on.
 use mathlib.Core.Path.{sym}
 use lib.Seq.{get_or-drop}
-use Rattle.std.proofs.Common.{rules}
 use Rattle.syntax.proofs.headers.guard_byte.Goals as goal
 
 pub returns-in-Two : goal.returns-in-Two

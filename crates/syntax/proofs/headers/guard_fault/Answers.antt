@@ -7,7 +7,6 @@ use native.Mathlib.Omega.{arith}
 use borrow.Author.Tests.{le-leb, lt-leb}
 use Rattle.trace.specs.{bit_of}
 use Rattle.syntax.specs.Bytes.{no_list_below}
-use Rattle.std.proofs.Common.{rules}
 use Rattle.syntax.proofs.headers.guard_fault.Goals as goal
 
 -- one bit more
@@ -48,16 +47,16 @@ returns-then-not-bit c = let a = c.args in
 
 pub loop-i-preserved-else-not-bit : goal.loop-i-preserved-else-not-bit
 loop-i-preserved-else-not-bit c = let a = c.args in (
-      omega arith,
-      clear c.loop-i.i a.kinds a.guard c.loop-i-test.true c.loop-i.invariant.1
-          (rw (← c.bit.ensures, ← c.bit-then-bit.ensures, c.if-bit.true, c.if-not-bit.false)),
-    )
+  omega arith,
+  clear c.loop-i.i a.kinds a.guard c.loop-i-test.true c.loop-i.invariant.1
+      (rw (← c.bit.ensures, ← c.bit-then-bit.ensures, c.if-bit.true, c.if-not-bit.false)),
+)
 
 pub loop-i-preserved : goal.loop-i-preserved
 loop-i-preserved c = let a = c.args in (
-      omega arith,
-      clear c.loop-i.i a.kinds a.guard c.loop-i-test.true c.loop-i.invariant.1 (rw (← c.bit.ensures, c.if-bit.false)),
-    )
+  omega arith,
+  clear c.loop-i.i a.kinds a.guard c.loop-i-test.true c.loop-i.invariant.1 (rw (← c.bit.ensures, c.if-bit.false)),
+)
 
 pub returns : goal.returns
 returns c = let a = c.args in

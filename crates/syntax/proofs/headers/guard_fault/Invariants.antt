@@ -1,12 +1,7 @@
 -- `guard_fault` meets its contract. The loop's invariant: where a bit is set and no list is, it is among the lowest i.
 -- The measure is i.
-use mathlib.Core.Path.{◌≡◌, refl, sym, ap, ◌∙◌}
-use mathlib.Core.Bool.{Bool, true, false, not, ◌&&◌, ◌||◌, or-false, or-true}
-use Prim.Native.Nat.{ℕ, zero, suc, ◌-◌, ◌<◌, ◌≤◌}
-use native.Mathlib.Numerals.{sub-one}
-use native.Mathlib.Omega.{arith}
-use borrow.Author.Tests.{le-leb, lt-leb}
-use Rattle.trace.specs.{bit_of}
+use mathlib.Core.Path.{◌≡◌}
+use Prim.Native.Nat.{◌≤◌}
 use Rattle.syntax.specs.Bytes.{no_list_below}
 use Rattle.syntax.proofs.headers.guard_fault.Given as goal
 

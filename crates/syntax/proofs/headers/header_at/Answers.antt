@@ -1,9 +1,6 @@
 -- `header_at` meets its contract: its tests are those of 7, 8 and 9, in this order.
-use Prim.Native.Nat.{◌-◌, ◌≤◌}
 use native.Mathlib.Omega.{arith}
-use lib.ListN.{length}
 use Rattle.syntax.proofs.HeaderWays.{header_cut, header-kinds, header-guard, header-length, header-found}
-use Rattle.std.proofs.Common.{rules}
 use Rattle.syntax.proofs.headers.header_at.Goals as goal
 
 pub returns-then-remains-size : goal.returns-then-remains-size

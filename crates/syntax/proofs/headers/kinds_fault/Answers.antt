@@ -4,7 +4,6 @@ use Prim.Native.Nat.{ℕ, ◌*◌, ◌%◌, ◌^◌, ◌≤◌}
 use native.Mathlib.Omega.{arith}
 use borrow.Author.Tests.{lt-ltb, le-ltb, le-leb, lt-leb}
 use Rattle.trace.proofs.Bits.{weight_exact}
-use Rattle.std.proofs.Common.{rules}
 use Rattle.syntax.proofs.headers.kinds_fault.Goals as goal
 
 weight : (k : ℕ) → k ≤ 4 → (1 * 2 ^ k) % 256 ≡ 2 ^ k

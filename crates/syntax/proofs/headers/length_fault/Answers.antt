@@ -1,6 +1,5 @@
 -- `length_fault` meets its contract: its tests are those of 9.
 use borrow.Author.Tests.{eq-eqb, ne_eqb, lt-ltb, le-ltb}
-use Rattle.std.proofs.Common.{rules}
 use Rattle.syntax.proofs.headers.length_fault.Goals as goal
 
 pub returns-then-wide-eq0 : goal.returns-then-wide-eq0

@@ -6,7 +6,6 @@ use native.Mathlib.Omega.{arith}
 use Rattle.trace.specs.{bit_of}
 use Rattle.trace.proofs.Bits.{bit_past}
 use Rattle.syntax.specs.Kinds.{kind_in}
-use Rattle.std.proofs.Common.{rules}
 use Rattle.syntax.proofs.kinds.kind_at.Goals as goal
 
 pub returns-then-i-ge56 : goal.returns-then-i-ge56

@@ -8,7 +8,6 @@ use borrow.Author.Tests.{le-leb, lt-leb, ne_eqb}
 use Rattle.syntax.specs.declared.Node.{Node}
 use Rattle.syntax.specs.declared.Node.TheVariants.{Param, Call, Unknown}
 use Rattle.syntax.specs.Bytes.{node_of}
-use Rattle.std.proofs.Common.{rules}
 use Rattle.syntax.proofs.nodes.node_of.Goals as goal
 
 -- a byte that no arm names alone is in one of the two ranges or unknown
