@@ -7,15 +7,17 @@ help: ## list the targets
 test: ## run all tests: prove every crate from nothing, try the must-fail edits, run the programs and comparisons
 	.ci/run
 
-check: ## prove what has changed since the last time, and run the programs
-	rt check
+check: ## prove what has changed since the last time
+	rt all check
 
 fmt: ## lay out the sources and proofs
-	rt fmt
+	for crate in crates/*/; do (cd $$crate && rt fmt) || exit 1; done
 
-try: ## run the programs with no proof: interpreter, -O0, -O3, assumptions checked
-	rt try cases
-	rt try listing
+try: ## run the programs with no proof, on an interpreter and compiled with checks, and compare what they print
+	mkdir -p target/tests
+	for crate in cases listing; do \
+	  (cd crates/$$crate && rt try <stdin >../../target/tests/$$crate.tried) && cmp target/tests/$$crate.tried crates/$$crate/stdout || exit 1; \
+	done
 
 expected: ## write the sample archive, and what the programs must print, anew by the second implementation in Rust
 	mkdir -p target/tests
@@ -33,7 +35,7 @@ ARCHIVE = samples/plant.archive
 # The listing program has no exit status of its own: what it tells on standard error is made one.
 list: ## list the records of an archive, the sample's or those of ARCHIVE=file
 	@test -r "$(ARCHIVE)" && test ! -d "$(ARCHIVE)" || { echo "make list: no file '$(ARCHIVE)' to read; name one as ARCHIVE=file" >&2; exit 2; }
-	@tools/prove check listing
+	@tools/prove program listing
 	@target/bin/listing <"$(ARCHIVE)" 2>target/listing.err; status=$$?; cat target/listing.err >&2; \
 	test $$status -eq 0 && test ! -s target/listing.err
 
