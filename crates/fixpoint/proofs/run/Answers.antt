@@ -1,7 +1,7 @@
 -- The goals that are left.
 use native.Mathlib.Omega.{arith}
 use Rattle.fixpoint.specs.{most_passes}
-use Rattle.fixpoint.proofs.Running.{running_start, running_length, running_stop, running_more, running_end}
+use Rattle.fixpoint.proofs.Running.{running_start, running_stop, running_more, running_end}
 use Rattle.fixpoint.proofs.run.Goals as goal
 
 pub loop-done-init : goal.loop-done-init
@@ -9,9 +9,6 @@ loop-done-init c = running_start _ _ _ _ most_passes _
 
 pub overflow_add-done : goal.overflow_add-done
 overflow_add-done c = omega (arith, c.loop-done-test.true)
-
-pub shape_of-table-then-stored-eq0 : goal.shape_of-table-then-stored-eq0
-shape_of-table-then-stored-eq0 c = running_length c.loop-done.invariant c.pass-stored.ensures.cells
 
 pub returns-then-stored-eq0-clause-cells : goal.returns-then-stored-eq0-clause-cells
 returns-then-stored-eq0-clause-cells c = (running_stop c.loop-done.invariant c.loop-done-test.true c.pass-stored.ensures.cells c.pass-stored.ensures.stored c.if-stored-eq0.true).0
