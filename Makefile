@@ -4,7 +4,7 @@
 help: ## list the targets
 	@grep -hE '^[a-z]+:.*## ' $(MAKEFILE_LIST) | sed 's/:.*## /\t/' | expand -t 8
 
-test: ## run all tests: prove every crate from nothing, try the must-fail edits, run the programs and comparisons
+test: ## run all tests: prove every crate, try the must-fail edits, run the programs and comparisons
 	.ci/run
 
 check: ## prove what has changed since the last time

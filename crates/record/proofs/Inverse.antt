@@ -1,6 +1,6 @@
 -- Reading the layout of contents:
 --   layout_passed          bytes that end in it pass the checks
---   read-back              so they are read as the contents, and the bytes before are left
+--   read_back              so they are read as the contents, and the bytes before are left
 use mathlib.Core.Path.{◌≡◌, ap, ◌∙◌}
 use mathlib.Core.List.{List, ◌++◌}
 use Prim.Native.Nat.{ℕ}
