@@ -9,11 +9,12 @@ use mathlib.Core.List.{List, [], ◌∷◌, ◌++◌, append_assoc, append-nil, 
 use Prim.Native.Nat.{ℕ, zero, suc, ◌≤◌}
 use native.Mathlib.Omega.{arith}
 use lib.ListN.{length, take}
-use Rattle.refusal.specs.declared.Check.TheVariants as check
+use Rattle.std.specs.Prelude.{Result, Ok, Err}
+use Rattle.refusal.specs.declared.Refusal.{Refusal}
+use Rattle.refusal.specs.{Check, passed}
 use Rattle.refusal.proofs.Numbers.{refused}
 use Rattle.rule.specs.Form.{AreBytes}
-use Rattle.layout.specs.declared.Reading.{Reading}
-use Rattle.layout.specs.declared.Reading.TheVariants as read
+use Rattle.layout.specs.declared.Parts.{Parts}
 use Rattle.layout.specs.Form.{Contents, layout, Stated}
 use Rattle.layout.specs.Trailer.{contents_at}
 use Rattle.rule.proofs.FunctionBytes.{bytes_take}
@@ -41,7 +42,7 @@ walk_onto before (c ∷ cs) h =
     let more = walk_onto (before ++ layout c) cs h.1 in
     rw (append_assoc before (layout c) (archive_of cs), walk_after before c h.0, r.contents) at more
 
-pub walk_archive : (cs : List Contents) → AllStated cs → (records (walk (archive_of cs)) ≡ reverse cs) × (ending (walk (archive_of cs)) ≡ check.Passed)
+pub walk_archive : (cs : List Contents) → AllStated cs → (records (walk (archive_of cs)) ≡ reverse cs) × (ending (walk (archive_of cs)) ≡ passed)
 walk_archive cs h = rw walk_end at (walk_onto [] cs h)
 
 -- ---- The records that a walk found are the whole archive
@@ -61,7 +62,7 @@ archive_more : {before bytes : List ℕ} (cs : List Contents) (c : Contents) →
     → IsArchive bytes (cs ++ (c ∷ []))
 archive_more cs c w s e = (stated_snoc cs c w.0 s, e ∙ ap (λ (l : List ℕ). l ++ layout c) w.1 ∙ sym (archive_snoc cs c))
 
-whole_in : (k : ℕ) (bytes : List ℕ) → length bytes ≤ k → AreBytes bytes → ending (walk bytes) ≡ check.Passed
+whole_in : (k : ℕ) (bytes : List ℕ) → length bytes ≤ k → AreBytes bytes → ending (walk bytes) ≡ passed
     → IsArchive bytes (reverse (records (walk bytes)))
 unfolding archive_of
 whole_in zero [] h are e = rw walk_end (tt, refl)
@@ -72,22 +73,22 @@ whole_in (suc k) (b ∷ bs) h are e = go (λ before l bs' q. whole_in k before l
     bytes : List ℕ
     bytes = b ∷ bs
 
-    go : ((before : List ℕ) → length before ≤ k → AreBytes before → ending (walk before) ≡ check.Passed
+    go : ((before : List ℕ) → length before ≤ k → AreBytes before → ending (walk before) ≡ passed
         → IsArchive before (reverse (records (walk before))))
-        → (r : Reading) → reading bytes ≡ r → IsArchive bytes (reverse (records (walk bytes)))
-    go shorter (read.Refused f) q = let stops : check.Refused f ≡ check.Passed =
+        → (r : Result Parts Refusal) → reading bytes ≡ r → IsArchive bytes (reverse (records (walk bytes)))
+    go shorter (Err f) q = let stops : ◌≡◌ {A = Check} (Err f) passed =
         rw (walk_refused bytes f (omega arith) q) at e in absurd (refused stops)
-    go shorter (read.Record p) q =
+    go shorter (Ok p) q =
         let before = take p.program.start bytes in
         let c = contents_at bytes p in
         let w = ends_in bytes p are q in
         let short = before-short bytes p q in
-        let goes : ending (walk before) ≡ check.Passed = rw (walk_record bytes p q) at e in
+        let goes : ending (walk before) ≡ passed = rw (walk_record bytes p q) at e in
         let first = shorter before (omega arith) (bytes_take p.program.start bytes are) goes in
         rw (walk_record bytes p q, reverse-cons c (records (walk before)))
         (archive_more (reverse (records (walk before))) c first w.stated w.whole)
 
-pub walk-whole : (bytes : List ℕ) → AreBytes bytes → ending (walk bytes) ≡ check.Passed → IsArchive bytes (reverse (records (walk bytes)))
+pub walk-whole : (bytes : List ℕ) → AreBytes bytes → ending (walk bytes) ≡ passed → IsArchive bytes (reverse (records (walk bytes)))
 walk-whole bytes = whole_in (length bytes) bytes (omega arith)
 
 pub walks_exactly : (bytes : List ℕ) → AreBytes bytes → WalksExactly bytes

@@ -11,11 +11,11 @@ use Rattle.refusal.proofs.Numbers.{number_small}
 use Rattle.encoding.specs.{decimal}
 use Rattle.encoding.proofs.Decimal.{length-decimal}
 use Rattle.layout.specs.declared.GuardTrace.{GuardTrace}
-use Rattle.layout.specs.declared.GuardTrace.TheVariants.{Absent, At}
+use Rattle.std.specs.Prelude.{Option, Some, None, Result, Ok, Err}
 use Rattle.layout.specs.declared.Parts.{Parts}
 use Rattle.record.specs.declared.Checked.{Checked}
 use Rattle.record.specs.declared.Checked.TheVariants as checked
-use Rattle.archive.specs.Listing.{space, guard_field, verdict_word, check_word, record_line, stop_line, end_line}
+use Rattle.archive.specs.Listing.{space, guard_field, verdict_word, answer_word, check_word, record_line, stop_line, end_line}
 
 -- ---- Fields
 
@@ -33,30 +33,30 @@ verdict-short (suc (suc zero)) = omega arith
 verdict-short (suc (suc (suc zero))) = omega arith
 verdict-short (suc (suc (suc (suc v)))) = omega arith
 
-check_short : (c : Checked) → length (check_word c) ≤ 7
-unfolding check_word
-check_short (checked.Agrees v) = omega arith
-check_short (checked.Differs v) = omega arith
-check_short (checked.Refused f) = omega (arith, number_short f)
+check_short : (c : Result Checked Refusal) → length (check_word c) ≤ 7
+unfolding check_word answer_word
+check_short (Ok (checked.Agrees v)) = omega arith
+check_short (Ok (checked.Differs v)) = omega arith
+check_short (Err f) = omega (arith, number_short f)
 
 -- ---- Lines
 
 -- of a record, with a guard trace five more
-abbrev pub most_line : GuardTrace → ℕ
-most_line Absent = 34
-most_line (At s m) = 39
+abbrev pub most_line : Option GuardTrace → ℕ
+most_line None = 34
+most_line (Some g) = 39
 
 -- the guard trace's samples, if there is one
-abbrev pub GuardBelow : GuardTrace → ℕ → Type 0
-GuardBelow Absent k = Unit {0}
-GuardBelow (At s m) k = m < k
+abbrev pub GuardBelow : Option GuardTrace → ℕ → Type 0
+GuardBelow None k = Unit {0}
+GuardBelow (Some g) k = g.samples < k
 
-guard-short : (g : GuardTrace) → GuardBelow g (10 ^ 4) → 34 + length (guard_field g) ≤ most_line g
+guard-short : (g : Option GuardTrace) → GuardBelow g (10 ^ 4) → 34 + length (guard_field g) ≤ most_line g
 unfolding guard_field
-guard-short Absent few = omega arith
-guard-short (At s m) few = omega (arith, length-append (decimal m) space, length-decimal 4 m (omega arith) few)
+guard-short None few = omega arith
+guard-short (Some g) few = omega (arith, length-append (decimal g.samples) space, length-decimal 4 g.samples (omega arith) few)
 
-pub record_line_short : (ordinal size : ℕ) (p : Parts) (c : Checked) → ordinal < 10 ^ 5 → size < 10 ^ 5 → p.n < 10 ^ 5 → GuardBelow p.guard (10 ^ 4)
+pub record_line_short : (ordinal size : ℕ) (p : Parts) (c : Result Checked Refusal) → ordinal < 10 ^ 5 → size < 10 ^ 5 → p.n < 10 ^ 5 → GuardBelow p.guard (10 ^ 4)
     → length (record_line ordinal size p c) ≤ most_line p.guard
 unfolding record_line
 record_line_short ordinal size p c o s n m =

@@ -19,10 +19,8 @@ use Rattle.refusal.specs.declared.Refusal.{Refusal}
 use Rattle.encoding.specs.{put}
 use Rattle.encoding.proofs.Putting.{Left, left-room, left-more, left_front}
 use Rattle.layout.specs.declared.GuardTrace.{GuardTrace}
-use Rattle.layout.specs.declared.GuardTrace.TheVariants.{Absent, At}
+use Rattle.std.specs.Prelude.{Option, Some, None, Result, Ok, Err}
 use Rattle.layout.specs.declared.Parts.{Parts}
-use Rattle.layout.specs.declared.Reading.{Reading}
-use Rattle.layout.specs.declared.Reading.TheVariants as read
 use Rattle.record.specs.Reading.{reading}
 use Rattle.record.specs.declared.Checked.{Checked}
 use Rattle.record.specs.declared.Examined.{Examined}
@@ -43,13 +41,13 @@ lines_end : (listed : ℕ) → lines_of listed (walk []) ≡ end_line listed
 unfolding lines_of
 lines_end listed = rw walk_end
 
-pub lines_record : (listed : ℕ) (bytes : List ℕ) (p : Parts) → reading bytes ≡ read.Record p
+pub lines_record : (listed : ℕ) (bytes : List ℕ) (p : Parts) → reading bytes ≡ Ok p
     → lines_of listed (walk bytes) ≡ record_line (suc listed) (length bytes - p.program.start) p (checking bytes listing_cells)
     ++ lines_of (suc listed) (walk (take p.program.start bytes))
 unfolding lines_of
 lines_record listed bytes p e = rw (walk_record bytes p e)
 
-pub lines_refused : (listed : ℕ) (bytes : List ℕ) (f : Refusal) → 0 < length bytes → reading bytes ≡ read.Refused f
+pub lines_refused : (listed : ℕ) (bytes : List ℕ) (f : Refusal) → 0 < length bytes → reading bytes ≡ Err f
     → lines_of listed (walk bytes) ≡ stop_line (suc listed) f
 unfolding lines_of
 lines_refused listed bytes f h e = rw (walk_refused bytes f h e)
@@ -57,12 +55,12 @@ lines_refused listed bytes f h e = rw (walk_refused bytes f h e)
 -- ---- Their length
 
 -- a line takes at most two bytes for each of its record's
-line_few : (bytes : List ℕ) (g : GuardTrace) → GuardWithin bytes g → GuardBelow g (10 ^ 4) × (most_line g ≤ 2 * least_bytes g)
-line_few bytes Absent w = (tt, omega arith)
-line_few bytes (At s m) w = (omega arith, omega arith)
+line_few : (bytes : List ℕ) (g : Option GuardTrace) → GuardWithin bytes g → GuardBelow g (10 ^ 4) × (most_line g ≤ 2 * least_bytes g)
+line_few bytes None w = (tt, omega arith)
+line_few bytes (Some g) w = (omega arith, omega arith)
 
 -- a turn
-record_short : (listed : ℕ) (bytes : List ℕ) (p : Parts) → AreBytes bytes → listed + length bytes ≤ most_archive → reading bytes ≡ read.Record p
+record_short : (listed : ℕ) (bytes : List ℕ) (p : Parts) → AreBytes bytes → listed + length bytes ≤ most_archive → reading bytes ≡ Ok p
     → length (lines_of (suc listed) (walk (take p.program.start bytes))) ≤ 2 * length (take p.program.start bytes) + 64
     → length (lines_of listed (walk bytes)) ≤ 2 * length bytes + 64
 record_short listed bytes p are few e more =
@@ -76,12 +74,12 @@ record_short listed bytes p are few e more =
     record_line_short (suc listed) size p (checking bytes listing_cells) (omega arith) (omega arith) (omega (arith, w.few)) least.0 in
     rw (lines_record listed bytes p e) (omega (arith, length-append line rest, record_least bytes p are e, least.1))
 
-by_reading : (listed : ℕ) (bytes : List ℕ) (r : Reading) → AreBytes bytes → 0 < length bytes → listed + length bytes ≤ most_archive → reading bytes ≡ r
-    → ((p : Parts) → reading bytes ≡ read.Record p
+by_reading : (listed : ℕ) (bytes : List ℕ) (r : Result Parts Refusal) → AreBytes bytes → 0 < length bytes → listed + length bytes ≤ most_archive → reading bytes ≡ r
+    → ((p : Parts) → reading bytes ≡ Ok p
     → length (lines_of (suc listed) (walk (take p.program.start bytes))) ≤ 2 * length (take p.program.start bytes) + 64)
     → length (lines_of listed (walk bytes)) ≤ 2 * length bytes + 64
-by_reading listed bytes (read.Record p) are h few e more = record_short listed bytes p are few e (more p e)
-by_reading listed bytes (read.Refused f) are h few e more =
+by_reading listed bytes (Ok p) are h few e more = record_short listed bytes p are few e (more p e)
+by_reading listed bytes (Err f) are h few e more =
     rw (lines_refused listed bytes f h e) (omega (arith, stop_line_short (suc listed) f (omega arith)))
 
 short_in : (k listed : ℕ) (bytes : List ℕ) → AreBytes bytes → length bytes ≤ k → listed + length bytes ≤ most_archive
@@ -131,7 +129,7 @@ module _ {archive out₀ out table : List ℕ} {left listed at : ℕ} (t : Turn 
   unfolding examining
   checked_told e = ap (λ (x : Examined). x.checked) e ∙ rw t.cells
 
-  pub turn_stop : {f : Refusal} → 0 < left → reading bytes ≡ read.Refused f → Left out₀ 0 (lines_of 0 (walk archive)) out at (stop_line (listed + 1) f)
+  pub turn_stop : {f : Refusal} → 0 < left → reading bytes ≡ Err f → Left out₀ 0 (lines_of 0 (walk archive)) out at (stop_line (listed + 1) f)
   turn_stop {f} h e = rw (add-one listed) (rw (lines_refused listed bytes f (omega (arith, size)) e) at t.text)
 
   pub turn_end : left ≤ 0 → Left out₀ 0 (lines_of 0 (walk archive)) out at (end_line listed)
@@ -139,11 +137,11 @@ module _ {archive out₀ out table : List ℕ} {left listed at : ℕ} (t : Turn 
       let none : left ≡ 0 = omega arith in
       rw (none, lines_end listed) at t.text
 
-  module _ {p : Parts} (e : reading bytes ≡ read.Record p) where
+  module _ {p : Parts} (e : reading bytes ≡ Ok p) where
     pub start-below : p.program.start < left
     start-below = omega (arith, (parts_within bytes p e).some, size)
 
-    pub turn_record : {c : Checked} → c ≡ checking bytes listing_cells
+    pub turn_record : {c : Result Checked Refusal} → c ≡ checking bytes listing_cells
         → Left out₀ 0 (lines_of 0 (walk archive)) out at (record_line (listed + 1) (left - p.program.start) p c
         ++ lines_of (listed + 1) (walk (take p.program.start archive)))
     turn_record c =
@@ -151,13 +149,13 @@ module _ {archive out₀ out table : List ℕ} {left listed at : ℕ} (t : Turn 
         take-take p.program.start left archive (omega (arith, start-below)) in
         rw (add-one listed, c) (rw (lines_record listed bytes p e, before, size) at t.text)
 
-    pub turn_room : {c : Checked} → c ≡ checking bytes listing_cells
+    pub turn_room : {c : Result Checked Refusal} → c ≡ checking bytes listing_cells
         → at + length (record_line (listed + 1) (left - p.program.start) p c) ≤ length out
     turn_room {c} same =
         left-room (record_line (listed + 1) (left - p.program.start) p c) (lines_of (listed + 1) (walk (take p.program.start archive)))
         (turn_record same)
 
-    pub turn_next : {out' table' : List ℕ} {at' : ℕ} {c : Checked} → c ≡ checking bytes listing_cells → length table' ≡ listing_cells
+    pub turn_next : {out' table' : List ℕ} {at' : ℕ} {c : Result Checked Refusal} → c ≡ checking bytes listing_cells → length table' ≡ listing_cells
         → (at' ≡ at + length (record_line (listed + 1) (left - p.program.start) p c))
         × (out' ≡ put at (record_line (listed + 1) (left - p.program.start) p c) out)
         → Turn archive out₀ out' table' p.program.start (listed + 1) at'

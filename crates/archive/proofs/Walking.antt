@@ -1,5 +1,5 @@
 -- Laws of the walk:
---   step_owed                  what a step answers, and that in numbers
+--   step_told                  what a step answers, in numbers
 --   before-short               the bytes before a record are fewer than those that end in it
 --   walk_enough                more steps than bytes change nothing
 --   walk_end                   no bytes left is the end
@@ -12,38 +12,34 @@ use native.Mathlib.Omega.{arith}
 use lib.ListN.{length, take}
 use lib.Seq.{length-take-le}
 use Rattle.refusal.specs.declared.Refusal.{Refusal}
-use Rattle.refusal.specs.declared.Check.{Check}
-use Rattle.refusal.specs.declared.Check.TheVariants.{Passed, Refused}
-use Rattle.refusal.specs.{answer_if}
+use Rattle.std.specs.Prelude.{Result, Ok, Err}
+use Rattle.refusal.specs.{Check, answer_if}
 use Rattle.layout.specs.declared.Parts.{Parts}
-use Rattle.layout.specs.declared.Reading.{Reading}
-use Rattle.layout.specs.declared.Reading.TheVariants as read
 use Rattle.layout.specs.Trailer.{parts_in, read_by}
 use Rattle.record.specs.Reading.{read_check, reading_with, reading, parts_values}
 use Rattle.record.proofs.Answers.{parts_within}
-use Rattle.archive.specs.declared.Step.{Step}
-use Rattle.archive.specs.Walk.{step_by, step_in, step_answer, step_numbers, Walk, ended, stopped, found, onward, walk_in, walk}
+use Rattle.archive.specs.Walk.{Step, step_by, step_in, step_answer, step_numbers, Walk, ended, stopped, found, onward, walk_in, walk}
 
-pub step_owed : (bytes : List ℕ) {r : Step} → r ≡ step_in bytes → (r ≡ step_in bytes) × (step_answer r ≡ step_numbers bytes)
+pub step_told : (bytes : List ℕ) {r : Step} → r ≡ step_in bytes → step_answer r ≡ step_numbers bytes
 unfolding reading_with
-step_owed bytes e = (e, ap step_answer e ∙ go bytes)
+step_told bytes e = ap step_answer e ∙ go bytes
   where
     by_check : (k : Check) (p : Parts) → step_answer (step_by (read_by k p)) ≡ answer_if k (parts_values p)
-    by_check Passed p = refl
-    by_check (Refused f) p = refl
+    by_check (Ok tt) p = refl
+    by_check (Err f) p = refl
 
     go : (l : List ℕ) → step_answer (step_in l) ≡ step_numbers l
     go [] = refl
     go (b ∷ bs) = by_check (read_check (b ∷ bs)) (parts_in (b ∷ bs))
 
-pub before-short : (bytes : List ℕ) (p : Parts) → reading bytes ≡ read.Record p → length (take p.program.start bytes) < length bytes
+pub before-short : (bytes : List ℕ) (p : Parts) → reading bytes ≡ Ok p → length (take p.program.start bytes) < length bytes
 before-short bytes p e = let w = parts_within bytes p e in rw (length-take-le p.program.start bytes (omega arith)) w.some
 
 -- two ways on from a record that are the same for the record that is read
-same_onward : (bytes : List ℕ) (r : Reading) → reading bytes ≡ r → (k l : Parts → Walk) → ((p : Parts) → reading bytes ≡ read.Record p → k p ≡ l p)
+same_onward : (bytes : List ℕ) (r : Result Parts Refusal) → reading bytes ≡ r → (k l : Parts → Walk) → ((p : Parts) → reading bytes ≡ Ok p → k p ≡ l p)
     → onward bytes (step_by r) k ≡ onward bytes (step_by r) l
-same_onward bytes (read.Record p) e k l h = ap (found bytes p) (h p e)
-same_onward bytes (read.Refused f) e k l h = refl
+same_onward bytes (Ok p) e k l h = ap (found bytes p) (h p e)
+same_onward bytes (Err f) e k l h = refl
 
 enough : (k l : ℕ) (bytes : List ℕ) → length bytes ≤ k → length bytes ≤ l → walk_in k bytes ≡ walk_in l bytes
 unfolding walk_in
@@ -85,8 +81,8 @@ walk-some (b ∷ bs) h =
     (λ p. walk (take p.program.start bytes))
     (λ p e. let short = before-short bytes p e in walk_enough (length bs) (take p.program.start bytes) (omega arith))
 
-pub walk_record : (bytes : List ℕ) (p : Parts) → reading bytes ≡ read.Record p → walk bytes ≡ found bytes p (walk (take p.program.start bytes))
+pub walk_record : (bytes : List ℕ) (p : Parts) → reading bytes ≡ Ok p → walk bytes ≡ found bytes p (walk (take p.program.start bytes))
 walk_record bytes p e = walk-some bytes (omega (arith, before-short bytes p e)) ∙ rw e
 
-pub walk_refused : (bytes : List ℕ) (f : Refusal) → 0 < length bytes → reading bytes ≡ read.Refused f → walk bytes ≡ stopped f
+pub walk_refused : (bytes : List ℕ) (f : Refusal) → 0 < length bytes → reading bytes ≡ Err f → walk bytes ≡ stopped f
 walk_refused bytes f h e = walk-some bytes h ∙ rw e

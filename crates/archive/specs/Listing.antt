@@ -1,10 +1,9 @@
 -- The text that the listing program prints, of documents 01 ('Programs tried') and 02: a line for each record from the last.
-use Rattle.std.specs.Prelude.{ℕ, zero, suc, ◌-◌, cond, List, [], ◌∷◌, ◌++◌, ltb, length}
+use Rattle.std.specs.Prelude.{ℕ, zero, suc, ◌-◌, cond, List, [], ◌∷◌, ◌++◌, ltb, length, Option, Some, None, Result, Ok, Err}
 use Rattle.refusal.specs.declared.Refusal.{Refusal}
 use Rattle.refusal.specs.{number_of}
 use Rattle.encoding.specs.{decimal}
 use Rattle.layout.specs.declared.GuardTrace.{GuardTrace}
-use Rattle.layout.specs.declared.GuardTrace.TheVariants.{Absent, At}
 use Rattle.layout.specs.declared.Parts.{Parts}
 use Rattle.record.specs.declared.Checked.{Checked}
 use Rattle.record.specs.declared.Checked.TheVariants as checked
@@ -39,13 +38,17 @@ verdict_word (suc (suc (suc zero))) = 0x68 ∷ 0x65 ∷ 0x61 ∷ 0x64 ∷ []
 -- tail
 verdict_word (suc (suc (suc (suc n)))) = 0x74 ∷ 0x61 ∷ 0x69 ∷ 0x6C ∷ []
 
--- 'agrees, differs or the number 21'
-unfoldable pub check_word : Checked → List ℕ
+-- 'agrees, differs'
+unfoldable pub answer_word : Checked → List ℕ
 -- agrees
-check_word (checked.Agrees v) = 0x61 ∷ 0x67 ∷ 0x72 ∷ 0x65 ∷ 0x65 ∷ 0x73 ∷ []
+answer_word (checked.Agrees v) = 0x61 ∷ 0x67 ∷ 0x72 ∷ 0x65 ∷ 0x65 ∷ 0x73 ∷ []
 -- differs
-check_word (checked.Differs v) = 0x64 ∷ 0x69 ∷ 0x66 ∷ 0x66 ∷ 0x65 ∷ 0x72 ∷ 0x73 ∷ []
-check_word (checked.Refused f) = decimal (number_of f)
+answer_word (checked.Differs v) = 0x64 ∷ 0x69 ∷ 0x66 ∷ 0x66 ∷ 0x65 ∷ 0x72 ∷ 0x73 ∷ []
+
+-- 'or the number 21'
+unfoldable pub check_word : Result Checked Refusal → List ℕ
+check_word (Ok c) = answer_word c
+check_word (Err f) = decimal (number_of f)
 
 abbrev pub stop_word : List ℕ
 stop_word = 0x73 ∷ 0x74 ∷ 0x6F ∷ 0x70 ∷ []
@@ -63,12 +66,16 @@ abbrev pub field : List ℕ → List ℕ
 field text = text ++ space
 
 -- 'both counts, ram first': the guard trace's after n, where there is one
-unfoldable pub guard_field : GuardTrace → List ℕ
-guard_field (At s m) = field (decimal m)
-guard_field Absent = []
+unfoldable pub guard_field : Option GuardTrace → List ℕ
+guard_field (Some g) = field (decimal g.samples)
+guard_field None = []
+
+-- n, and the guard trace's count
+abbrev pub counts : ℕ → Option GuardTrace → List ℕ
+counts n g = field (decimal n) ++ guard_field g
 
 -- 'ordinal, record length, n, verdict word, then agrees, differs or the number 21'
-unfoldable pub record_line : ℕ → ℕ → Parts → Checked → List ℕ
+unfoldable pub record_line : ℕ → ℕ → Parts → Result Checked Refusal → List ℕ
 record_line ordinal size p c =
     field (decimal ordinal)
     ++ (field (decimal size)

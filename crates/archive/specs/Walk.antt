@@ -1,17 +1,11 @@
 -- Walking an archive, of document 01: 'records end to end, read from its last byte backwards'.
-use Rattle.std.specs.Prelude.{ℕ, zero, suc, ◌↔◌, ◌≡◌, List, [], ◌∷◌, ◌++◌, reverse, length, take}
+use Rattle.std.specs.Prelude.{ℕ, zero, suc, ◌↔◌, ◌≡◌, List, [], ◌∷◌, ◌++◌, reverse, length, take, Option, Some, None, Result, Ok, Err}
 use Rattle.refusal.specs.declared.Refusal.{Refusal}
-use Rattle.refusal.specs.declared.Check.{Check}
-use Rattle.refusal.specs.declared.Check.TheVariants as check
-use Rattle.refusal.specs.{Answer, answered, refused_as, answer_if}
+use Rattle.refusal.specs.{Check, passed, Answer, answered, refused_as, answer_if}
 use Rattle.layout.specs.declared.Parts.{Parts}
-use Rattle.layout.specs.declared.Reading.{Reading}
-use Rattle.layout.specs.declared.Reading.TheVariants as read
 use Rattle.layout.specs.Form.{Contents, layout, Stated}
 use Rattle.layout.specs.Trailer.{contents_at, parts_in}
 use Rattle.record.specs.Reading.{reading, parts_values, read_check}
-use Rattle.archive.specs.declared.Step.{Step}
-use Rattle.archive.specs.declared.Step.TheVariants as step
 
 -- 'an archive is records end to end'
 unfoldable pub archive_of : List Contents → List ℕ
@@ -20,20 +14,24 @@ archive_of (c ∷ cs) = layout c ++ archive_of cs
 
 -- ---- One step
 
-abbrev pub step_by : Reading → Step
-step_by (read.Record p) = step.Record p
-step_by (read.Refused f) = step.Refused f
+-- what stands last: a record, no bytes, or what is refused
+abbrev pub Step : Type 0
+Step = Result (Option Parts) Refusal
+
+abbrev pub step_by : Result Parts Refusal → Step
+step_by (Ok p) = Ok (Some p)
+step_by (Err f) = Err f
 
 -- what the bytes end in; 'no bytes left is the end'
 abbrev pub step_in : List ℕ → Step
-step_in [] = step.End
+step_in [] = Ok None
 step_in (b ∷ bs) = step_by (reading (b ∷ bs))
 
 -- the answer in numbers: the parts of a record; the end has none
 abbrev pub step_answer : Step → Answer
-step_answer step.End = answered []
-step_answer (step.Record p) = answered (parts_values p)
-step_answer (step.Refused f) = refused_as f
+step_answer (Ok None) = answered []
+step_answer (Ok (Some p)) = answered (parts_values p)
+step_answer (Err f) = refused_as f
 
 -- what a step answers, in numbers
 abbrev pub step_numbers : List ℕ → Answer
@@ -50,9 +48,9 @@ pub data Walk : Type 0 where
   found : List ℕ → Parts → Walk → Walk
 
 abbrev pub onward : List ℕ → Step → (Parts → Walk) → Walk
-onward bytes step.End k = ended
-onward bytes (step.Record p) k = found bytes p (k p)
-onward bytes (step.Refused f) k = stopped f
+onward bytes (Ok None) k = ended
+onward bytes (Ok (Some p)) k = found bytes p (k p)
+onward bytes (Err f) k = stopped f
 
 -- at most so many steps
 unfoldable pub walk_in : ℕ → List ℕ → Walk
@@ -71,8 +69,8 @@ records (found bytes p w) = contents_at bytes p ∷ records w
 
 -- how it ends: with no bytes left, or with a refusal
 abbrev pub ending : Walk → Check
-ending ended = check.Passed
-ending (stopped f) = check.Refused f
+ending ended = passed
+ending (stopped f) = Err f
 ending (found bytes p w) = ending w
 
 -- ---- What a walk owes
@@ -84,7 +82,7 @@ AllStated (c ∷ cs) = Stated c × AllStated cs
 
 -- a walk finds exactly some records, the last first, and then the end
 abbrev pub Finds : List ℕ → List Contents → Type 0
-Finds bytes cs = (records (walk bytes) ≡ reverse cs) × (ending (walk bytes) ≡ check.Passed)
+Finds bytes cs = (records (walk bytes) ≡ reverse cs) × (ending (walk bytes) ≡ passed)
 
 -- the bytes are an archive of them: their layouts, in order, are the whole of it
 abbrev pub IsArchive : List ℕ → List Contents → Type 0

@@ -8,7 +8,7 @@ ghost use Rattle.encoding.specs.{begins};
 ghost use Rattle.archive.specs.Walk.{step_in, step_answer, step_numbers};
 ghost use Rattle.archive.specs.Listing.{listing};
 
-use layout::{Parts, Reading};
+use layout::Parts;
 use refusal::Refusal;
 
 // The longest archive that is listed, the cells that its records are checked in, and room for every listing: a
@@ -20,37 +20,18 @@ pub const CELLS: usize = 16384;
 
 pub const TEXT: usize = 65600;
 
-// What stands last in an archive.
-#[derive(Clone, Copy)]
-pub enum Step {
-    End,
-    Record(Parts),
-    Refused(Refusal),
-}
-
-// The last record among the first `left` bytes of an archive. The bytes before it, with which a walk goes
-// on, are those before its program.
-pub fn last(archive: &[u8], left: usize) -> Step
+// The last record among the first `left` bytes of an archive, or none where no bytes are left. The bytes before it, with which
+// a walk goes on, are those before its program.
+pub fn last(archive: &[u8], left: usize) -> Result<Option<Parts>, Refusal>
     ensures answer { result ≡ step_in (take left archive.now) }
     ensures numbers { step_answer result ≡ step_numbers (take left archive.now) }
 {
-    if left < archive.len() {
-        return step_of(&archive[..left]);
+    let bytes = &archive[..left.min(archive.len())];
+    if bytes.is_empty() {
+        return Ok(None);
     }
-    step_of(archive)
-}
-
-// What some bytes end in.
-fn step_of(bytes: &[u8]) -> Step
-    ensures { result ≡ step_in bytes.now }
-{
-    if bytes.len() == 0 {
-        return Step::End;
-    }
-    match record::read(bytes) {
-        Reading::Record(parts) => Step::Record(parts),
-        Reading::Refused(refusal) => Step::Refused(refusal),
-    }
+    let parts = record::read(bytes)?;
+    Ok(Some(parts))
 }
 
 // Writes the listing of an archive to the front of the output, and answers how long it is.

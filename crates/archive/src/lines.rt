@@ -1,11 +1,12 @@
-// The lines of a listing.
+// The lines of a listing. Each is put at a place of the output, and the place after it is handed on: with a struct that held the
+// lent output, each of these functions would promise besides that it still holds that one.
 ghost use Rattle.std.specs.Prelude.{◌≡◌, ◌+◌, ◌≤◌, length};
 ghost use Rattle.encoding.specs.{decimal, begins, put};
 ghost use Rattle.archive.specs.Walk.{walk};
-ghost use Rattle.archive.specs.Listing.{most_archive, listing_cells, listing_bytes, guard_field, verdict_word, check_word, record_line, stop_line, end_line, lines_of};
+ghost use Rattle.archive.specs.Listing.{most_archive, listing_cells, listing_bytes, counts, guard_field, verdict_word, answer_word, check_word, record_line, stop_line, end_line, lines_of};
 ghost use Rattle.archive.specs.Listing.{field as listing_field};
 
-use layout::{GuardTrace, Parts, Reading};
+use layout::{GuardTrace, Parts};
 use record::Checked;
 use refusal::Refusal;
 
@@ -19,22 +20,18 @@ pub fn lines(archive: &[u8], table: &mut [u16], out: &mut [u8]) -> usize
     let mut left = archive.len();
     let mut listed: u32 = 0;
     let mut at: usize = 0;
+    // What is left says where the next turn stands: a `for` over the archive has no step of a record's size.
     while 0 < left {
         let examined = record::examine(&archive[..left], table);
-        let reading = examined.reading;
-        let checked = examined.checked;
-        match reading {
-            Reading::Refused(refusal) => {
-                return stop_line(out, at, listed + 1, refusal);
-            }
-            Reading::Record(parts) => {
-                let program = parts.program;
-                let size = left - program.start;
-                at = record_line(out, at, listed + 1, size as u32, parts, checked);
-                left = program.start;
-                listed += 1;
-            }
-        }
+        let parts = match examined.reading {
+            Ok(parts) => parts,
+            Err(refusal) => return stop_line(out, at, listed + 1, refusal),
+        };
+        let start = parts.program.start;
+        let size = (left - start) as u32;
+        at = record_line(out, at, listed + 1, size, parts, examined.checked);
+        left = start;
+        listed += 1;
     }
     end_line(out, at, listed)
 }
@@ -46,32 +43,40 @@ fn record_line(
     ordinal: u32,
     size: u32,
     parts: Parts,
-    checked: Checked,
+    checked: Result<Checked, Refusal>,
 ) -> usize
     requires { at + length (record_line ordinal size parts checked) ≤ length out.old }
     ensures place { result ≡ at + length (record_line ordinal size parts checked) }
     ensures output { out.new ≡ put at (record_line ordinal size parts checked) out.old }
 {
-    let a = field(out, at, ordinal);
-    let b = field(out, a, size);
-    let c = field(out, b, parts.n as u32);
-    let guard = parts.guard;
-    let d = guard_field(out, c, guard);
-    let e = verdict_word(out, d, parts.verdict);
-    let f = encoding::put(out, e, b" ");
-    let g = check_word(out, f, checked);
-    encoding::put(out, g, b"\n")
+    let after_ordinal = field(out, at, ordinal);
+    let after_size = field(out, after_ordinal, size);
+    let after_counts = counts(out, after_size, parts.n, parts.guard);
+    let after_verdict = encoding::put(out, after_counts, verdict_word(parts.verdict));
+    let after_space = encoding::put(out, after_verdict, b" ");
+    let after_check = check_word(out, after_space, checked);
+    encoding::put(out, after_check, b"\n")
+}
+
+// The numbers of the traces' samples, the ram's first.
+fn counts(out: &mut [u8], at: usize, n: u16, guard: Option<GuardTrace>) -> usize
+    requires { at + length (counts n guard) ≤ length out.old }
+    ensures place { result ≡ at + length (counts n guard) }
+    ensures output { out.new ≡ put at (counts n guard) out.old }
+{
+    let after_ram = field(out, at, n as u32);
+    guard_field(out, after_ram, guard)
 }
 
 // The number of a guard trace's samples, and the space after it; nothing where there is no such trace.
-fn guard_field(out: &mut [u8], at: usize, guard: GuardTrace) -> usize
+fn guard_field(out: &mut [u8], at: usize, guard: Option<GuardTrace>) -> usize
     requires { at + length (guard_field guard) ≤ length out.old }
     ensures place { result ≡ at + length (guard_field guard) }
     ensures output { out.new ≡ put at (guard_field guard) out.old }
 {
     match guard {
-        GuardTrace::Absent => at,
-        GuardTrace::At(_, m) => field(out, at, m as u32),
+        None => at,
+        Some(guard) => field(out, at, guard.samples as u32),
     }
 }
 
@@ -81,10 +86,10 @@ fn stop_line(out: &mut [u8], at: usize, ordinal: u32, refusal: Refusal) -> usize
     ensures place { result ≡ at + length (stop_line ordinal refusal) }
     ensures output { out.new ≡ put at (stop_line ordinal refusal) out.old }
 {
-    let a = encoding::put(out, at, b"stop ");
-    let b = field(out, a, ordinal);
-    let c = encoding::put_decimal(out, b, refusal::number(refusal));
-    encoding::put(out, c, b"\n")
+    let after_word = encoding::put(out, at, b"stop ");
+    let after_ordinal = field(out, after_word, ordinal);
+    let after_number = encoding::put_decimal(out, after_ordinal, u32::from(refusal));
+    encoding::put(out, after_number, b"\n")
 }
 
 // The line after the last record.
@@ -93,9 +98,9 @@ fn end_line(out: &mut [u8], at: usize, listed: u32) -> usize
     ensures place { result ≡ at + length (end_line listed) }
     ensures output { out.new ≡ put at (end_line listed) out.old }
 {
-    let a = encoding::put(out, at, b"end ");
-    let b = encoding::put_decimal(out, a, listed);
-    encoding::put(out, b, b"\n")
+    let after_word = encoding::put(out, at, b"end ");
+    let after_count = encoding::put_decimal(out, after_word, listed);
+    encoding::put(out, after_count, b"\n")
 }
 
 // A number, and the space after it.
@@ -104,34 +109,43 @@ fn field(out: &mut [u8], at: usize, n: u32) -> usize
     ensures place { result ≡ at + length (listing_field (decimal n)) }
     ensures output { out.new ≡ put at (listing_field (decimal n)) out.old }
 {
-    let a = encoding::put_decimal(out, at, n);
-    encoding::put(out, a, b" ")
+    let after_number = encoding::put_decimal(out, at, n);
+    encoding::put(out, after_number, b" ")
 }
 
 // The word of a stored verdict.
-fn verdict_word(out: &mut [u8], at: usize, verdict: u8) -> usize
-    requires { at + length (verdict_word verdict) ≤ length out.old }
-    ensures place { result ≡ at + length (verdict_word verdict) }
-    ensures output { out.new ≡ put at (verdict_word verdict) out.old }
+#[tactic(auto, unfolding(crate::specs::Listing::verdict_word))]
+fn verdict_word(verdict: u8) -> &'static [u8]
+    ensures { result.now ≡ verdict_word verdict }
 {
     match verdict {
-        0 => encoding::put(out, at, b"forever"),
-        1 => encoding::put(out, at, b"no"),
-        2 => encoding::put(out, at, b"yes"),
-        3 => encoding::put(out, at, b"head"),
-        _ => encoding::put(out, at, b"tail"),
+        0 => b"forever",
+        1 => b"no",
+        2 => b"yes",
+        3 => b"head",
+        _ => b"tail",
     }
 }
 
-// The word of a check, or the number of its refusal.
-fn check_word(out: &mut [u8], at: usize, checked: Checked) -> usize
+// The word of what a check answers.
+#[tactic(auto, unfolding(crate::specs::Listing::answer_word))]
+fn answer_word(checked: Checked) -> &'static [u8]
+    ensures { result.now ≡ answer_word checked }
+{
+    match checked {
+        Checked::Agrees(_) => b"agrees",
+        Checked::Differs(_) => b"differs",
+    }
+}
+
+// That word, or the number of the check's refusal.
+fn check_word(out: &mut [u8], at: usize, checked: Result<Checked, Refusal>) -> usize
     requires { at + length (check_word checked) ≤ length out.old }
     ensures place { result ≡ at + length (check_word checked) }
     ensures output { out.new ≡ put at (check_word checked) out.old }
 {
     match checked {
-        Checked::Agrees(_) => encoding::put(out, at, b"agrees"),
-        Checked::Differs(_) => encoding::put(out, at, b"differs"),
-        Checked::Refused(refusal) => encoding::put_decimal(out, at, refusal::number(refusal)),
+        Ok(answer) => encoding::put(out, at, answer_word(answer)),
+        Err(refusal) => encoding::put_decimal(out, at, u32::from(refusal)),
     }
 }

@@ -7,11 +7,11 @@ ghost use Rattle.std.specs.Prelude.{◌≡◌, ◌<◌, ◌≤◌};
 ghost use Rattle.syntax.specs.Limits.{most_depth};
 ghost use Rattle.decoding.specs.Words.{sort_of, if_param_sort, call_sort, call_one_sort};
 ghost use Rattle.evaluator.specs.{eval_word, branch_at};
-ghost use Rattle.bodies.specs.{Leaf, plain_by, sort_at};
+ghost use Rattle.bodies.specs.{sort_at};
 
-use decoding::functions::{FUNCTIONS, STRIDE, WORDS};
-use decoding::{functions, nodes};
-use evaluator::{call_leaves, digit, eval, lookup, param};
+use decoding::functions::WORDS;
+use decoding::nodes;
+use evaluator::{branch_of, call_leaves, call_with, eval, leaf, param};
 
 // The number of the outcome of a body, by its word. `env` has the working numbers of the parameter values, and
 // at 4 and 5 the origins of places.
@@ -26,9 +26,6 @@ pub fn outcome(
 {
     take(words, traces, &table, env, syntax::MOST_DEPTH, body)
 }
-
-// What a node that is no leaf is told by: no outcome has this number.
-const NO_LEAF: u16 = 65535;
 
 // The number of the outcome of a node of the spine.
 #[cycle(branch_conditional_take)]
@@ -98,7 +95,8 @@ fn conditional(
     branch(words, traces, table, env, depth, node, value)
 }
 
-// The branch that a condition's outcome chooses.
+// The branch that a condition's outcome chooses. The evaluator's goes on with eval, in its own cycle of calls: what both choose by
+// is branch_of.
 #[cycle(branch_conditional_take)]
 fn branch(
     words: &[u64; WORDS],
@@ -112,13 +110,10 @@ fn branch(
     requires { 0 < depth }
     ensures { result ≡ branch_at words.now traces.now table.now.now env.now depth node chosen }
 {
-    if chosen == codes::TRUE {
-        return take(words, traces, table, env, depth, nodes::second(words, node));
+    match branch_of(words, node, chosen) {
+        Some(next) => take(words, traces, table, env, depth, next),
+        None => chosen,
     }
-    if chosen == codes::FALSE {
-        return take(words, traces, table, env, depth, nodes::third(words, node));
-    }
-    chosen
 }
 
 // A call with one argument whose result is no guard list, if the argument is a leaf.
@@ -133,43 +128,8 @@ fn call_one(
     requires { (1 < depth) × (sort_of node ≡ call_one_sort) }
     ensures { result ≡ eval_word words.now traces.now table.now.now env.now depth node }
 {
-    let value = leaf(traces, env, nodes::first(words, node));
-    if value == NO_LEAF {
-        return eval(words, traces, table, env, depth, node);
-    }
-    let place = FUNCTIONS + STRIDE * nodes::callee(node);
-    let kind = words[place + 1];
-    let digit = digit(kind, value);
-    if functions::values(kind) <= digit {
-        return value;
-    }
-    lookup(words[place], table, digit)
-}
-
-// The number of the outcome of a leaf: a constant, a parameter, its tl or its hd. NO_LEAF for other nodes.
-fn leaf(traces: &[u8; codes::TRACES_BYTES], env: &[u16; 6], node: u64) -> u16
-    ensures { Leaf traces.now env.now node result }
-{
-    let sort = nodes::sort(node);
-    if sort == nodes::TAIL_PARAM {
-        return codes::tail(param(env, node));
-    }
-    if sort < nodes::HEAD {
-        return plain(env, node, sort);
-    }
-    if sort == nodes::HEAD_PARAM {
-        return codes::head(traces, env, param(env, node));
-    }
-    NO_LEAF
-}
-
-// A parameter or a constant, by its sort.
-fn plain(env: &[u16; 6], node: u64, sort: u64) -> u16
-    ensures { result ≡ plain_by env.now node sort }
-{
-    if sort == nodes::PARAM {
-        param(env, node)
-    } else {
-        nodes::constant(node)
+    match leaf(traces, env, nodes::first(words, node)) {
+        Some(value) => call_with(words, table, node, value),
+        None => eval(words, traces, table, env, depth, node),
     }
 }

@@ -35,7 +35,6 @@ mod operations;
 
 ghost use Rattle.std.specs.Prelude.{◌≤◌, IfOk, length};
 
-use script::printing;
 use std::io;
 use std::io::{Read, Write};
 
@@ -47,12 +46,13 @@ fn main(rt: HostRuntime) -> io::Result<()> {
     let size = read_script(&mut rt.stdin(), &mut script)?;
     let mut output = rt.stdout();
     if MOST_SCRIPT < size {
-        return printing::words(&mut output, b"cannot read more than 65536 bytes\n");
+        return writeln!(output, "cannot read more than 65536 bytes");
     }
     run(&mut output, &script[..size])
 }
 
-// Reads an input until it ends or the buffer is full, and answers how many bytes it read.
+// Reads an input until it ends or the buffer is full, and answers how many bytes it read. std's `read_to_end` would
+// need a heap, and go on after a signal, which is a failed read here as in the program `listing`.
 fn read_script<R: Read>(input: &mut R, buffer: &mut [u8]) -> io::Result<usize>
     ensures { IfOk result (λ size. size ≤ length buffer.new) }
 {
@@ -69,26 +69,14 @@ fn read_script<R: Read>(input: &mut R, buffer: &mut [u8]) -> io::Result<usize>
 
 // Runs the cases line by line, as far as they can be read.
 fn run<W: Write>(writer: &mut W, script: &[u8]) -> io::Result<()> {
-    let mut start: usize = 0;
-    let mut number: usize = 1;
-    let mut i: usize = 0;
-    while i < script.len() {
-        if script[i] == b'\n' {
-            if !operations::line(writer, &script[start..i])? {
-                return unread(writer, number);
-            }
-            start = i + 1;
-            number += 1;
+    for (line, number) in script.split_inclusive(|byte| *byte == b'\n').zip(1usize..) {
+        let read = match line.strip_suffix(b"\n") {
+            Some(line) => operations::line(writer, line)?,
+            None => false,
+        };
+        if !read {
+            return writeln!(writer, "cannot read line {number}");
         }
-        i += 1;
-    }
-    if start < i {
-        unread(writer, number)?;
     }
     Ok(())
-}
-
-fn unread<W: Write>(writer: &mut W, number: usize) -> io::Result<()> {
-    printing::told(writer, b"cannot read line", number)?;
-    printing::words(writer, b"\n")
 }

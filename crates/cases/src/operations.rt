@@ -1,9 +1,13 @@
-// The operations: their names, and the fields that they read.
+// The operations: a line is read as a call of the library, which is made and printed.
 use crate::calls;
+use crate::calls::{Call, Rule};
+use prepare::Handed;
+use ring::Ring;
+use script::fields;
 use script::fields::Lent;
-use script::{fields, parts, printing};
-use std::io;
+use script::words::Word;
 use std::io::Write;
+use std::{io, mem};
 
 // The bytes that are read in a case, the bytes and the cells that may be written.
 const GIVEN: usize = 40000;
@@ -12,253 +16,173 @@ const WRITTEN: usize = 5000;
 
 const CELLS: usize = 5000;
 
-// The operations, the bytes of a row for each, and the place of the fields in a row.
-const OPERATIONS: usize = 18;
-
-const WIDTH: usize = 20;
-
-const SHAPE: usize = 13;
-
-// A row for each operation, its name and its fields: n a number, b bytes that are read, w bytes that may be
-// written, c cells that may be. Its number is its place in this table.
-fn operations() -> [u8; 360] {
-    *b"add          wnnb   \
-       take         bnnw   \
-       fill         wb     \
-       check        b      \
-       read         b      \
-       last         bn     \
-       walk         b      \
-       list         b      \
-       evaluate     bbnc   \
-       pass         bbnc   \
-       follow       bbn    \
-       write        bbncw  \
-       evaluate-two bbnbnc \
-       pass-two     bbnbnc \
-       follow-two   bbnbn  \
-       write-two    bbnbncw\
-       check-record bc     \
-       examine      bc     "
-}
-
-// What was read of a line: the end of the bytes given, the places of the next of their fields, how many numbers,
-// whether bytes and cells may be written, and the place in the line.
-#[derive(Clone, Copy)]
-struct Fields {
-    given: usize,
-    parts: usize,
-    numbers: usize,
-    bytes: bool,
-    cells: bool,
-    at: usize,
-}
-
-// Three places for each memory, in `places`: the beginning and the end of the lent part, and the end of the whole.
-// First come up to three fields of bytes that are read, then the bytes and the cells that may be written.
-pub const PLACES: usize = 15;
-
-pub const SECOND: usize = 3;
-
-pub const THIRD: usize = 6;
-
-pub const WRITTEN_AT: usize = 9;
-
-pub const CELLS_AT: usize = 12;
-
 // Runs a line; false where it cannot be read.
 pub fn line<W: Write>(writer: &mut W, line: &[u8]) -> io::Result<bool> {
-    if line.len() == 0 {
-        return Ok(true);
+    if line.is_empty() || line.starts_with(b"#") {
+        Ok(true)
+    } else {
+        case(writer, line)
     }
-    if line[0] == b'#' {
-        return Ok(true);
-    }
-    let mut index: usize = 0;
-    let at = fields::after_space(line, fields::after_name(line));
-    let table = operations();
-    while index < OPERATIONS {
-        let start = index * WIDTH;
-        let place = fields::after_word(line, at, parts::bytes(&table, start, start + SHAPE));
-        if place != fields::LOST {
-            return case(writer, line, place, index);
-        }
-        index += 1;
-    }
-    Ok(false)
 }
 
-// Runs an operation on the fields at a place of a line.
-fn case<W: Write>(writer: &mut W, line: &[u8], at: usize, index: usize) -> io::Result<bool> {
+fn case<W: Write>(writer: &mut W, line: &[u8]) -> io::Result<bool> {
     let mut given = [0u8; GIVEN];
     let mut written = [0u8; WRITTEN];
     let mut cells = [0u16; CELLS];
-    let mut places = [0usize; PLACES];
-    let mut numbers = [0usize; 2];
-    let read = read(
-        line,
-        at,
-        index,
-        &mut given,
-        &mut written,
-        &mut cells,
-        &mut places,
-        &mut numbers,
-    );
-    if read.at != line.len() {
+    let Some((name, fields)) = named(line) else {
         return Ok(false);
-    }
-    printing::words(writer, parts::bytes(line, 0, fields::after_name(line)))?;
-    calls::perform(
-        writer,
-        index,
-        &given,
-        &mut written,
-        &mut cells,
-        &places,
-        &numbers,
-    )?;
-    show(writer, read, &written, &cells, &places)?;
+    };
+    let Some(call) = read(fields, &mut given, &mut written, &mut cells) else {
+        return Ok(false);
+    };
+    writer.write_all(name)?;
+    calls::perform(writer, call, &mut written, &mut cells)?;
+    writer.write_all(b"\n")?;
     Ok(true)
 }
 
-// Prints the memories that may have been written.
-fn show<W: Write>(
-    writer: &mut W,
-    read: Fields,
-    written: &[u8; WRITTEN],
-    cells: &[u16; CELLS],
-    places: &[usize; PLACES],
-) -> io::Result<()> {
-    if read.cells {
-        printing::cells(
-            writer,
-            cells,
-            places[CELLS_AT],
-            places[CELLS_AT + 1],
-            places[CELLS_AT + 2],
-        )?;
-    }
-    if read.bytes {
-        printing::bytes(
-            writer,
-            written,
-            places[WRITTEN_AT],
-            places[WRITTEN_AT + 1],
-            places[WRITTEN_AT + 2],
-        )?;
-    }
-    printing::words(writer, b"\n")
+// The name of a case with its colon, and the fields after it.
+fn named(line: &[u8]) -> Option<(&[u8], &[u8])> {
+    let colon = line.iter().position(|byte| *byte == b':')?;
+    line.split_at_checked(colon.checked_add(1)?)
 }
 
-// Reads the fields of an operation.
-fn read(
+// The call that a case describes; none where its fields are not those of an operation.
+fn read<'a>(
     line: &[u8],
-    at: usize,
-    index: usize,
-    given: &mut [u8],
+    given: &'a mut [u8],
     written: &mut [u8],
     cells: &mut [u16],
-    places: &mut [usize; PLACES],
-    numbers: &mut [usize; 2],
-) -> Fields {
-    let table = operations();
-    let mut state = Fields {
-        given: 0,
-        parts: 0,
-        numbers: 0,
-        bytes: false,
-        cells: false,
-        at,
+) -> Option<Call<'a>> {
+    let mut fields = Fields { line, given };
+    let operation = fields.next()?;
+    let call = match operation {
+        b"add" => Call::Add {
+            slots: fields.lent(written)?,
+            ring: fields.ring()?,
+            sample: fields.bytes()?,
+        },
+        b"take" => Call::Take {
+            slots: fields.bytes()?,
+            ring: fields.ring()?,
+            output: fields.lent(written)?,
+        },
+        b"fill" => Call::Fill {
+            slots: fields.lent(written)?,
+            samples: fields.bytes()?,
+        },
+        b"check" => Call::Check(fields.bytes()?),
+        b"read" => Call::Read(fields.bytes()?),
+        b"last" => Call::Last {
+            archive: fields.bytes()?,
+            left: fields.number()?,
+        },
+        b"walk" => Call::Walk(fields.bytes()?),
+        b"list" => Call::List(fields.bytes()?),
+        b"evaluate" => Call::Evaluate {
+            rule: fields.rule()?,
+            table: fields.lent(cells)?,
+        },
+        b"pass" => Call::Pass {
+            rule: fields.rule()?,
+            table: fields.lent(cells)?,
+        },
+        b"follow" => Call::Follow(fields.rule()?),
+        b"write" => Call::Write {
+            rule: fields.rule()?,
+            table: fields.lent(cells)?,
+            output: fields.lent(written)?,
+        },
+        b"evaluate-two" => Call::Evaluate {
+            rule: fields.two_contacts()?,
+            table: fields.lent(cells)?,
+        },
+        b"pass-two" => Call::Pass {
+            rule: fields.two_contacts()?,
+            table: fields.lent(cells)?,
+        },
+        b"follow-two" => Call::Follow(fields.two_contacts()?),
+        b"write-two" => Call::Write {
+            rule: fields.two_contacts()?,
+            table: fields.lent(cells)?,
+            output: fields.lent(written)?,
+        },
+        b"check-record" => Call::CheckRecord {
+            record: fields.bytes()?,
+            table: fields.lent(cells)?,
+        },
+        b"examine" => Call::Examine {
+            record: fields.bytes()?,
+            table: fields.lent(cells)?,
+        },
+        _ => return None,
     };
-    let mut i: usize = 0;
-    while i < WIDTH - SHAPE {
-        let kind = parts::byte_at(&table, (index % OPERATIONS) * WIDTH + SHAPE + i);
-        state = field(line, kind, state, given, written, cells, places, numbers);
-        i += 1;
-    }
-    state
-}
-
-// Reads a field of a kind.
-fn field(
-    line: &[u8],
-    kind: u8,
-    state: Fields,
-    given: &mut [u8],
-    written: &mut [u8],
-    cells: &mut [u16],
-    places: &mut [usize; PLACES],
-    numbers: &mut [usize; 2],
-) -> Fields {
-    match kind {
-        b'n' => read_number(line, state, numbers),
-        b'b' => read_bytes(line, state, given, places),
-        b'w' => read_written(line, state, written, places),
-        b'c' => read_cells(line, state, cells, places),
-        _ => state,
+    if fields.line.is_empty() {
+        Some(call)
+    } else {
+        None
     }
 }
 
-fn read_number(line: &[u8], state: Fields, numbers: &mut [usize; 2]) -> Fields {
-    let mut next = state;
-    let number = fields::number(line, state.at);
-    let place = state.numbers;
-    next.at = number.at;
-    if place < 2 {
-        numbers[place] = number.value;
-        next.numbers = place + 1;
+// What is left of a line, and of the room for the bytes that are read.
+#[derive(Drop)]
+struct Fields<'l, 'a> {
+    line: &'l [u8],
+    given: &'a mut [u8],
+}
+
+impl<'l, 'a> Fields<'l, 'a> {
+    // The bytes between a space and the next one.
+    fn next(&mut self) -> Option<&'l [u8]> {
+        let text = self.line.strip_prefix(b" ")?;
+        let end = text
+            .iter()
+            .position(|byte| *byte == b' ')
+            .unwrap_or(text.len());
+        let (field, rest) = text.split_at_checked(end)?;
+        self.line = rest;
+        Some(field)
     }
-    next
-}
 
-fn read_bytes(
-    line: &[u8],
-    state: Fields,
-    given: &mut [u8],
-    places: &mut [usize; PLACES],
-) -> Fields {
-    let mut next = state;
-    let lent = fields::bytes(line, state.at, given, state.given);
-    put(places, state.parts, lent);
-    next.at = lent.at;
-    next.given = lent.size;
-    next.parts = state.parts % WRITTEN_AT + SECOND;
-    next
-}
+    fn number(&mut self) -> Option<usize> {
+        fields::number(self.next()?)
+    }
 
-fn read_written(
-    line: &[u8],
-    state: Fields,
-    written: &mut [u8],
-    places: &mut [usize; PLACES],
-) -> Fields {
-    let mut next = state;
-    let lent = fields::bytes(line, state.at, written, 0);
-    put(places, WRITTEN_AT, lent);
-    next.at = lent.at;
-    next.bytes = true;
-    next
-}
+    // Words that may be written.
+    fn lent<T: Word>(&mut self, room: &mut [T]) -> Option<Lent> {
+        fields::lend(self.next()?, room)
+    }
 
-fn read_cells(
-    line: &[u8],
-    state: Fields,
-    cells: &mut [u16],
-    places: &mut [usize; PLACES],
-) -> Fields {
-    let mut next = state;
-    let lent = fields::cells(line, state.at, cells);
-    put(places, CELLS_AT, lent);
-    next.at = lent.at;
-    next.cells = true;
-    next
-}
+    // Bytes that are read.
+    fn bytes(&mut self) -> Option<&'a [u8]> {
+        let field = self.next()?;
+        let given = mem::replace(&mut self.given, &mut []);
+        let lent = fields::lend(field, given)?;
+        let (bytes, rest) = given.split_at_mut_checked(lent.size)?;
+        self.given = rest;
+        bytes.get(lent.from..lent.to)
+    }
 
-// Notes the places of a memory.
-fn put(places: &mut [usize; PLACES], memory: usize, lent: Lent) {
-    let at = memory % (PLACES - 2);
-    places[at] = lent.from;
-    places[at + 1] = lent.to;
-    places[at + 2] = lent.size;
+    fn ring(&mut self) -> Option<Ring> {
+        Some(Ring {
+            next: self.number()?,
+            count: self.number()?,
+        })
+    }
+
+    fn rule(&mut self) -> Option<Rule<'a>> {
+        let program = self.bytes()?;
+        let trace = self.bytes()?;
+        let handed = Handed::one(trace, self.number()?);
+        Some(Rule { program, handed })
+    }
+
+    fn two_contacts(&mut self) -> Option<Rule<'a>> {
+        let program = self.bytes()?;
+        let ram = self.bytes()?;
+        let n = self.number()?;
+        let guard = self.bytes()?;
+        let handed = Handed::two(ram, n, guard, self.number()?);
+        Some(Rule { program, handed })
+    }
 }

@@ -13,7 +13,8 @@ use mathlib.Core.Option.{Option, some}
 use lib.ListN.{get_elem?}
 use lib.Dec.{T}
 use Rattle.semantics.specs.declared.Outcome.{Outcome}
-use Rattle.semantics.specs.Language.{Function, Program, Traces, InKinds, only, WellKinded}
+use Rattle.semantics.specs.declared.Demand.TheVariants.{Only as only}
+use Rattle.semantics.specs.Language.{Function, Program, Traces, InKinds, WellKinded}
 use Rattle.semantics.specs.Numbering.{cells, cell_of, Config, config_at}
 use Rattle.semantics.proofs.Numbering.{cell_lt, config_cell}
 use Rattle.chains.specs.Loops.{loops_in, only_loops}

@@ -14,7 +14,11 @@ use mathlib.Core.Option.{Option, some}
 use lib.Dec.{T}
 use Rattle.semantics.specs.declared.Outcome.{Outcome}
 use Rattle.semantics.specs.declared.Outcome.TheVariants.{Truth, Suffix, Failed}
-use Rattle.semantics.specs.Language.{Kind, truth, list, Op, hd, tl, null, Expr, constant, empty, param, op, ifte, call, Args, no_args, arg, Program, Traces, Value, bit, suffix, given, InKinds, Demand, only, any_list, op_allowed, operand_demand, Meets, MeetAll}
+use Rattle.semantics.specs.declared.Kind.{Kind}
+use Rattle.semantics.specs.declared.Kind.TheVariants.{Truth as truth, List as list}
+use Rattle.semantics.specs.declared.Demand.{Demand}
+use Rattle.semantics.specs.declared.Demand.TheVariants.{Only as only, AnyList as any_list}
+use Rattle.semantics.specs.Language.{Op, hd, tl, null, Expr, constant, empty, param, op, ifte, call, Args, no_args, arg, Program, Traces, Value, bit, suffix, given, InKinds, op_allowed, operand_demand, Meets, MeetAll}
 use Rattle.semantics.specs.Rules.{applied, Arguments, values, failed, Derives, DerivesAll}
 use Rattle.semantics.specs.Bodies.{with_value, with_values, operated, chosen, body_outcome, args_outcome}
 use Rattle.semantics.proofs.Demands.{of_demand}

@@ -13,7 +13,11 @@ use lib.Dec.{T}
 use Rattle.semantics.specs.declared.Error.{Error}
 use Rattle.semantics.specs.declared.Outcome.{Outcome}
 use Rattle.semantics.specs.declared.Outcome.TheVariants.{Truth, Suffix, Failed}
-use Rattle.semantics.specs.Language.{Kind, truth, Expr, constant, empty, param, op, ifte, call, Args, Function, Program, Traces, Value, InKinds, Demand, only, Meets}
+use Rattle.semantics.specs.declared.Kind.{Kind}
+use Rattle.semantics.specs.declared.Kind.TheVariants.{Truth as truth}
+use Rattle.semantics.specs.declared.Demand.{Demand}
+use Rattle.semantics.specs.declared.Demand.TheVariants.{Only as only}
+use Rattle.semantics.specs.Language.{Expr, constant, empty, param, op, ifte, call, Args, Function, Program, Traces, Value, InKinds, Meets}
 use Rattle.semantics.specs.Rules.{Arguments, values, failed, Derives, r_then, r_else, r_if_error, r_call, r_call_error, DerivesAll}
 use Rattle.semantics.specs.Bodies.{with_value, with_values, body_outcome}
 use Rattle.semantics.proofs.Demands.{of_demand}

@@ -27,12 +27,15 @@ use Rattle.semantics.specs.declared.Error.{Error}
 use Rattle.semantics.specs.declared.Error.TheVariants.{Head, Tail}
 use Rattle.semantics.specs.declared.Outcome.{Outcome}
 use Rattle.semantics.specs.declared.Outcome.TheVariants.{Truth, Suffix, Failed}
-use Rattle.semantics.specs.Language.{is_guard, Kind, truth, list, Op, hd, tl, null, Traces, trace_of, Value, bit, suffix, given, in_kind, Demand, only, any_list, op_allowed, operand_demand}
+use Rattle.semantics.specs.declared.Kind.{Kind}
+use Rattle.semantics.specs.declared.Kind.TheVariants.{Truth as truth, List as list}
+use Rattle.semantics.specs.declared.Demand.{Demand}
+use Rattle.semantics.specs.declared.Demand.TheVariants.{Only as only, AnyList as any_list}
+use Rattle.semantics.specs.Language.{is_guard, Op, hd, tl, null, Traces, trace_of, Value, bit, suffix, given, in_kind, op_allowed, operand_demand}
 use Rattle.semantics.specs.Numbering.{kind_size, digit_of}
 use Rattle.semantics.specs.Cells.{undecided_code, false_code, true_code, head_code, tail_code, suffix_code, code_of, content_of, of_kind, outcome_in}
 use Rattle.semantics.specs.Bodies.{with_value, operated}
 use Rattle.semantics.proofs.Demands.{same_contact_lem, suffix_in, of_demand, demand_kind}
-use Rattle.syntax.specs.Kinds.{guard_kind, kind_number}
 use Rattle.codes.specs.declared.Lengths.{Lengths}
 use Rattle.codes.specs.{guard_shift, guard_code, working_of, most_trace_bytes, sample_code, ram_offset, guard_offset, origin_of, place_of, has_samples, head_of, tail_of, null_of, radix_of, lowest_code, foreign, least_code, most_code, decided_code, shifted_code, cell_code}
 
@@ -144,13 +147,13 @@ module _ (t : Traces) (short : ShortTraces t) where
 
 -- ---- Values
 
-pub radix_means : {t : Traces} {n : Lengths} → LengthsOf t n → (κ : Kind) → radix_of (kind_number κ) n ≡ kind_size t κ
+pub radix_means : {t : Traces} {n : Lengths} → LengthsOf t n → (κ : Kind) → radix_of κ n ≡ kind_size t κ
 radix_means ls truth = refl
 radix_means ls (list Ram) = omega (arith, ls.ram)
 radix_means ls (list Guard) = omega (arith, ls.guard)
 
 -- the number of a suffix, by the lowest of its kind
-suffix_lowest : (c : Contact) (k : ℕ) → working_of (Suffix c k) ≡ lowest_code (kind_number (list c)) + k
+suffix_lowest : (c : Contact) (k : ℕ) → working_of (Suffix c k) ≡ lowest_code (list c) + k
 suffix_lowest Ram k = refl
 suffix_lowest Guard k = refl
 
@@ -159,29 +162,29 @@ own lowest radix k h = simp (le-ltb (lowest + k) lowest (omega arith), add-sub_c
 
 module _ (t : Traces) where
   -- the number of a value is as far above the lowest of its kind as its digit says
-  pub value_digit : (κ : Kind) (v : Value) → T (in_kind t κ v) → working_of (given v) - lowest_code (kind_number κ) ≡ digit_of v
+  pub value_digit : (κ : Kind) (v : Value) → T (in_kind t κ v) → working_of (given v) - lowest_code κ ≡ digit_of v
   value_digit truth (bit true) h = refl
   value_digit truth (bit false) h = refl
   value_digit truth (suffix c k) h = absurd h
   value_digit (list c) (bit b) h = absurd h
   value_digit (list c) (suffix c' k) h =
-      rw (suffix_lowest c' k, (suffix_in t c c' k h).0) (add-sub_cancel_left (lowest_code (kind_number (list c'))) k)
+      rw (suffix_lowest c' k, (suffix_in t c c' k h).0) (add-sub_cancel_left (lowest_code (list c')) k)
 
-  pub value_own : (κ : Kind) (v : Value) → T (in_kind t κ v) → foreign (lowest_code (kind_number κ)) (kind_size t κ) (working_of (given v)) ≡ false
+  pub value_own : (κ : Kind) (v : Value) → T (in_kind t κ v) → foreign (lowest_code κ) (kind_size t κ) (working_of (given v)) ≡ false
   value_own truth (bit true) h = refl
   value_own truth (bit false) h = refl
   value_own truth (suffix c k) h = absurd h
   value_own (list c) (bit b) h = absurd h
   value_own (list c) (suffix c' k) h =
       let p = suffix_in t c c' k h in
-      rw (suffix_lowest c' k, ← p.0) (own (lowest_code (kind_number (list c))) (suc (length (trace_of t c))) k (omega (arith, p.1)))
+      rw (suffix_lowest c' k, ← p.0) (own (lowest_code (list c)) (suc (length (trace_of t c))) k (omega (arith, p.1)))
 
-  pub none_foreign : (κ : Kind) → foreign (lowest_code (kind_number κ)) (kind_size t κ) undecided_code ≡ true
+  pub none_foreign : (κ : Kind) → foreign (lowest_code κ) (kind_size t κ) undecided_code ≡ true
   none_foreign truth = refl
   none_foreign (list Ram) = refl
   none_foreign (list Guard) = refl
 
-  pub failed-foreign : (κ : Kind) (x : Error) → foreign (lowest_code (kind_number κ)) (kind_size t κ) (working_of (Failed x)) ≡ true
+  pub failed-foreign : (κ : Kind) (x : Error) → foreign (lowest_code κ) (kind_size t κ) (working_of (Failed x)) ≡ true
   failed-foreign truth Head = refl
   failed-foreign truth Tail = refl
   failed-foreign (list Ram) Head = refl
@@ -227,7 +230,7 @@ decided-list t c (suc (suc (suc (suc (suc k))))) =
     rw (same_contact_lem c) (decided-suffix c (length (trace_of t c)) k (suc (suc (suc (suc (suc k))))) (omega arith))
 
 pub decided_means : {t : Traces} {n : Lengths} → LengthsOf t n → (κ : Kind) (cell : ℕ)
-    → decided_code (least_code (kind_number κ)) (most_code (kind_number κ) n) cell ≡ content_of (outcome_in t κ cell)
+    → decided_code (least_code κ) (most_code κ n) cell ≡ content_of (outcome_in t κ cell)
 decided_means {t} ls truth cell = decided-truth t cell
 decided_means {t} ls (list Ram) cell = rw ls.ram (decided-list t Ram cell)
 decided_means {t} ls (list Guard) cell = rw ls.guard (decided-list t Guard cell)
@@ -235,8 +238,8 @@ decided_means {t} ls (list Guard) cell = rw ls.guard (decided-list t Guard cell)
 -- ---- Working numbers
 
 -- what a call makes of what a cell holds, by the result kind of its function
-abbrev pub result_code : ℕ → ℕ → ℕ
-result_code kind cell = cond (eqb kind guard_kind) (shifted_code cell) cell
+abbrev pub result_code : Kind → ℕ → ℕ
+result_code kind cell = cond (is_guard kind) (shifted_code cell) cell
 
 suffix_shifted : (k : ℕ) → k ≤ most_samples → shifted_code (suffix_code + k) ≡ working_of (Suffix Guard k)
 suffix_shifted k h = rw (le-ltb (suffix_code + k) suffix_code (omega arith)) (omega arith)
@@ -271,7 +274,7 @@ module _ (t : Traces) (short : ShortTraces t) where
   same_content κ g (some o) h = same_code κ o g (h o refl)
 
   -- what a call gives, by the result kind of its function
-  pub result_means : (κ : Kind) (r : Option Outcome) → OfDemand t (only κ) r → result_code (kind_number κ) (content_of r) ≡ working_content r
+  pub result_means : (κ : Kind) (r : Option Outcome) → OfDemand t (only κ) r → result_code κ (content_of r) ≡ working_content r
   result_means truth = same_content truth refl
   result_means (list Ram) = same_content (list Ram) refl
   result_means (list Guard) = shifted_content

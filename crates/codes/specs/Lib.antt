@@ -6,7 +6,9 @@ use Rattle.semantics.specs.declared.Contact.TheVariants.{Ram, Guard}
 use Rattle.semantics.specs.declared.Outcome.{Outcome}
 use Rattle.semantics.specs.declared.Outcome.TheVariants.{Truth, Suffix, Failed}
 use Rattle.semantics.specs.Cells.{code_of, undecided_code, false_code, true_code, head_code, tail_code, suffix_code}
-use Rattle.syntax.specs.Kinds.{truth_kind, guard_kind}
+use Rattle.semantics.specs.declared.Contact.{Contact}
+use Rattle.semantics.specs.declared.Kind.{Kind}
+use Rattle.semantics.specs.declared.Kind.TheVariants.{Truth as truth, List as list}
 use Rattle.codes.specs.declared.Lengths.{Lengths}
 
 -- ---- Working numbers
@@ -73,21 +75,25 @@ null_of c = cond (has_samples c) false_code (through_or c true_code)
 abbrev pub Short : Lengths → Type 0
 Short n = (n.ram ≤ most_samples) × (n.guard ≤ most_samples)
 
--- ---- Kinds, by their numbers
+-- ---- Kinds
 
--- the length of the trace that a list kind means
-abbrev pub length_of : ℕ → Lengths → ℕ
-length_of kind n = cond (eqb kind guard_kind) n.guard n.ram
+-- the length of a contact's trace
+abbrev pub length_of : Contact → Lengths → ℕ
+length_of Ram n = n.ram
+length_of Guard n = n.guard
 
 -- how many values a kind has, and the working number of the first; the others follow
-abbrev pub radix_of : ℕ → Lengths → ℕ
-radix_of kind n = cond (eqb kind truth_kind) 2 (length_of kind n + 1)
+abbrev pub radix_of : Kind → Lengths → ℕ
+radix_of truth n = 2
+radix_of (list c) n = length_of c n + 1
 
-abbrev pub lowest_code : ℕ → ℕ
-lowest_code kind = cond (eqb kind truth_kind) false_code (cond (eqb kind guard_kind) guard_code suffix_code)
+abbrev pub lowest_code : Kind → ℕ
+lowest_code truth = false_code
+lowest_code (list Ram) = suffix_code
+lowest_code (list Guard) = guard_code
 
 -- the working number of a value of a kind, by its digit
-abbrev pub value_code : ℕ → ℕ → ℕ
+abbrev pub value_code : Kind → ℕ → ℕ
 value_code kind digit = digit + lowest_code kind
 
 -- a number that is none of so many from the lowest on: undecided, an error, or a value of another kind
@@ -97,11 +103,13 @@ foreign lowest radix c = cond (ltb c lowest) true (leb radix (c - lowest))
 -- ---- What a cell holds
 
 -- the least and the most number of an outcome of a kind
-abbrev pub least_code : ℕ → ℕ
-least_code kind = cond (eqb kind truth_kind) false_code head_code
+abbrev pub least_code : Kind → ℕ
+least_code truth = false_code
+least_code (list c) = head_code
 
-abbrev pub most_code : ℕ → Lengths → ℕ
-most_code kind n = cond (eqb kind truth_kind) tail_code (length_of kind n + suffix_code)
+abbrev pub most_code : Kind → Lengths → ℕ
+most_code truth n = tail_code
+most_code (list c) n = length_of c n + suffix_code
 
 -- what a cell holds, by these; undecided where it holds no outcome of that kind
 abbrev pub decided_code : ℕ → ℕ → ℕ → ℕ

@@ -2,10 +2,13 @@
 // says of which trace it is; in a cell its function's kind does. Every function answers for all numbers.
 #![tactic(auto)]
 
-ghost use Rattle.std.specs.Prelude.{◌≡◌, min};
+ghost use Rattle.std.specs.Prelude.{◌≡◌};
 ghost use Rattle.codes.specs.{head_of, place_of, has_samples, through_or, tail_of, null_of, decided_code, shifted_code, cell_code, length_of, radix_of, sample_code, least_code, most_code, lowest_code};
 
-// The numbers of outcomes; a suffix of length k of the ram trace is SUFFIX + k, of the guard trace GUARD_SUFFIX + k.
+use semantics::{Contact, Kind};
+
+// The numbers of outcomes; a suffix of length k of the ram trace is SUFFIX + k, of the guard trace GUARD_SUFFIX + k. They are
+// numbers, and no Option of an enum, since the C interface lends the table as 16-bit numbers, which every visit of a cell reads.
 pub const UNDECIDED: u16 = 0;
 
 pub const FALSE: u16 = 1;
@@ -48,7 +51,7 @@ pub fn head(traces: &[u8; TRACES_BYTES], env: &[u16; 6], operand: u16) -> u16
     if has_samples(operand) {
         return sample(
             traces,
-            place(env[4 + ((operand / GUARD_SHIFT) % 2) as usize], operand),
+            place(env[4 + usize::from((operand / GUARD_SHIFT) % 2)], operand),
         );
     }
     through_or(operand, HEAD)
@@ -58,7 +61,7 @@ pub fn head(traces: &[u8; TRACES_BYTES], env: &[u16; 6], operand: u16) -> u16
 fn place(origin: u16, operand: u16) -> u16
     ensures { result ≡ place_of origin operand }
 {
-    ((origin as u32 + 65536 - operand as u32) % 65536) as u16
+    origin.wrapping_sub(operand)
 }
 
 // The sample at place i of both traces as a number: the guard's begin at 8 * TRACE_BYTES. It is worked out without a
@@ -66,15 +69,8 @@ fn place(origin: u16, operand: u16) -> u16
 fn sample(traces: &[u8; TRACES_BYTES], i: u16) -> u16
     ensures { result ≡ sample_code traces.now i }
 {
-    let byte = wide(traces[(i / 8) as usize % TRACES_BYTES]);
+    let byte = u16::from(traces[usize::from(i / 8) % TRACES_BYTES]);
     (byte >> (i % 8)) % 2 + FALSE
-}
-
-// A byte as a number.
-fn wide(byte: u8) -> u16
-    ensures { result ≡ byte }
-{
-    byte as u16
 }
 
 // tl of what its operand gave.
@@ -141,67 +137,53 @@ pub fn cell(number: u16) -> u16
     number % GUARD_SHIFT
 }
 
-// The length of the trace that a list kind means.
-fn length(kind: u8, n: Lengths) -> u16
-    ensures { result ≡ length_of kind n }
+// The length of a contact's trace.
+fn length(contact: Contact, n: Lengths) -> u16
+    ensures { result ≡ length_of contact n }
 {
-    if kind == syntax::GUARD {
-        n.guard
-    } else {
-        n.ram
+    match contact {
+        Contact::Ram => n.ram,
+        Contact::Guard => n.guard,
     }
 }
 
 // The least number in a cell of an outcome of a kind.
-pub fn least(kind: u8) -> u64
+pub fn least(kind: Kind) -> u64
     ensures { result ≡ least_code kind }
 {
-    if kind == syntax::TRUTH {
-        FALSE as u64
-    } else {
-        HEAD as u64
+    match kind {
+        Kind::Truth => u64::from(FALSE),
+        Kind::List(_) => u64::from(HEAD),
     }
 }
 
 // The most.
-pub fn most(kind: u8, n: Lengths) -> u64
+pub fn most(kind: Kind, n: Lengths) -> u64
     ensures { result ≡ most_code kind n }
 {
-    if kind == syntax::TRUTH {
-        TAIL as u64
-    } else {
-        (length(kind, n) as u64) + SUFFIX as u64
+    match kind {
+        Kind::Truth => u64::from(TAIL),
+        Kind::List(contact) => u64::from(length(contact, n)) + u64::from(SUFFIX),
     }
 }
 
 // The working number of the first value of a kind; the others follow.
-pub fn lowest(kind: u8) -> u64
+pub fn lowest(kind: Kind) -> u64
     ensures { result ≡ lowest_code kind }
 {
-    if kind == syntax::TRUTH {
-        return FALSE as u64;
-    }
-    if kind == syntax::GUARD {
-        GUARD_SUFFIX as u64
-    } else {
-        SUFFIX as u64
-    }
+    u64::from(match kind {
+        Kind::Truth => FALSE,
+        Kind::List(Contact::Ram) => SUFFIX,
+        Kind::List(Contact::Guard) => GUARD_SUFFIX,
+    })
 }
 
 // How many values a kind has.
-pub fn radix(kind: u8, n: Lengths) -> u64
+pub fn radix(kind: Kind, n: Lengths) -> u64
     ensures { result ≡ radix_of kind n }
 {
-    if kind == syntax::TRUTH {
-        2
-    } else {
-        (length(kind, n) as u64) + 1
+    match kind {
+        Kind::Truth => 2,
+        Kind::List(contact) => u64::from(length(contact, n)) + 1,
     }
-}
-
-// The smaller of two numbers.
-pub fn smaller(a: usize, b: usize) -> usize
-    ensures { result ≡ min a b }
-{
-    if a < b { a } else { b }
 }

@@ -8,6 +8,7 @@
 use Prim.Native.Nat.{ℕ, ◌/◌, ◌%◌, ◌<◌}
 use native.Mathlib.Omega.{arith}
 use mathlib.Core.Path.{◌≡◌}
+use Rattle.semantics.specs.declared.Kind.{Kind}
 use Rattle.codes.specs.declared.Lengths.{Lengths}
 use Rattle.codes.specs.{Short, least_code, most_code, decided_code, radix_of, lowest_code}
 use Rattle.codes.proofs.Bounds.{least_small, lowest_small, most_small, radix_small}
@@ -75,7 +76,7 @@ places_alike s t small first second third fourth = omega arith
 
 -- ---- Functions
 
-module _ (first kind : ℕ) (n : Lengths) where
+module _ (first : ℕ) (kind : Kind) (n : Lengths) where
   pub first_in_lem : first_in (function_word first kind n) ≡ first % 4294967296
   unfolding function_word
   first_in_lem = omega arith
@@ -91,7 +92,7 @@ module _ (first kind : ℕ) (n : Lengths) where
   pub held_in_lem : (cell : ℕ) → Short n → held_in (function_word first kind n) cell ≡ decided_code (least_code kind) (most_code kind n) cell
   held_in_lem cell short = rw (least_in_lem, most_in_lem short)
 
-module _ (kind : ℕ) (n : Lengths) where
+module _ (kind : Kind) (n : Lengths) where
   pub values_in_lem : Short n → values_in (kind_word kind n) ≡ radix_of kind n
   unfolding kind_word
   values_in_lem short = omega (arith, radix_small kind n short)

@@ -1,5 +1,7 @@
 -- A mirror of the code: the words of a program and its functions. No reader need believe it: proofs/ shows that each place
 -- holds the decoding of the byte there.
+use Rattle.semantics.specs.Language.{is_guard}
+use Rattle.semantics.specs.declared.Kind.{Kind}
 use Rattle.std.specs.Prelude.{ℕ, zero, suc, ◌+◌, ◌-◌, ◌*◌, ◌/◌, ◌%◌, min, Bool, true, false, cond, List, ltb, eqb, length, get_or, set, replicate}
 use Rattle.semantics.specs.Cells.{undecided_code, false_code, true_code, suffix_code}
 use Rattle.codes.specs.declared.Lengths.{Lengths}
@@ -8,7 +10,7 @@ use Rattle.syntax.specs.declared.Node.{Node}
 use Rattle.syntax.specs.declared.Node.TheVariants as node
 use Rattle.syntax.specs.Limits.{most_functions, most_body, most_bytes}
 use Rattle.syntax.specs.Bytes.{node_of}
-use Rattle.syntax.specs.Kinds.{guard_kind, kind_in}
+use Rattle.syntax.specs.Kinds.{kind_in}
 use Rattle.rule.specs.Walk.{at_most_four}
 use Rattle.decoding.specs.Words.{constant_sort, param_sort, head_sort, tail_sort, null_sort, head_param_sort, tail_param_sort, null_param_sort, if_sort, if_param_sort, if_null_sort, if_head_sort, call_sort, call_one_sort, call_guard_sort, call_leaves_sort, packed, sort_of, is_leaf, param_of, places_of, functions_from, stride, function_word, kind_word}
 
@@ -85,9 +87,9 @@ leaves_in words zero rest = true
 leaves_in words (suc n) rest = cond (is_leaf (get_or words (rest % 4096) 0)) (leaves_in words n (rest / 4096)) false
 
 -- the sort of a call by the callee's result kind, the number of arguments and whether they are leaves
-abbrev pub call_sort_of : ℕ → ℕ → Bool → ℕ
+abbrev pub call_sort_of : Kind → ℕ → Bool → ℕ
 call_sort_of kind count leaves =
-    cond (eqb kind guard_kind) call_guard_sort (cond (eqb count 1) call_one_sort (cond leaves call_leaves_sort call_sort))
+    cond (is_guard kind) call_guard_sort (cond (eqb count 1) call_one_sort (cond leaves call_leaves_sort call_sort))
 
 -- a call of function g with so many arguments
 abbrev pub called_by : List ℕ → List ℕ → List ℕ → ℕ → ℕ → ℕ → ℕ

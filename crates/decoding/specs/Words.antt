@@ -1,5 +1,6 @@
 -- A mirror of the code: how the words of an evaluation are made and read. No reader need believe it: proofs/ shows that what
 -- is put into a word is read from it.
+use Rattle.semantics.specs.declared.Kind.{Kind}
 use Rattle.std.specs.Prelude.{ℕ, ◌+◌, ◌*◌, ◌/◌, ◌%◌, Bool, true, cond, ltb, eqb}
 use Rattle.codes.specs.declared.Lengths.{Lengths}
 use Rattle.codes.specs.{least_code, most_code, decided_code, radix_of, lowest_code}
@@ -116,7 +117,7 @@ abbrev pub most_words : ℕ
 most_words = 4352
 
 -- the first cell of a function, in bits 0 to 31, and above it the least and the most number of an outcome of its kind
-unfoldable pub function_word : ℕ → ℕ → Lengths → ℕ
+unfoldable pub function_word : ℕ → Kind → Lengths → ℕ
 function_word first kind n =
     first % 4294967296 + least_code kind * 4294967296 + (most_code kind n % 65536) * 281474976710656
 
@@ -134,7 +135,7 @@ abbrev pub held_in : ℕ → ℕ → ℕ
 held_in w cell = decided_code (least_in w) (most_in w) cell
 
 -- how many values a parameter has, in bits 0 to 15, and above it the number of the first
-unfoldable pub kind_word : ℕ → Lengths → ℕ
+unfoldable pub kind_word : Kind → Lengths → ℕ
 kind_word kind n = radix_of kind n % 65536 + lowest_code kind * 65536
 
 abbrev pub values_in : ℕ → ℕ

@@ -3,6 +3,7 @@ ghost use Rattle.std.specs.Prelude.{◌≡◌};
 ghost use Rattle.decoding.specs.Words.{function_word, kind_word, first_in, held_in, values_in, lowest_in};
 
 use codes::Lengths;
+use semantics::Kind;
 
 // Where the nodes end and the functions begin.
 pub const FUNCTIONS: usize = syntax::MOST_BYTES;
@@ -14,7 +15,8 @@ pub const STRIDE: usize = 8;
 pub const WORDS: usize = FUNCTIONS + STRIDE * 32;
 
 // A function: its first cell in bits 0 to 31, then the least and the most number of an outcome of its kind.
-pub fn function(first: u64, kind: u8, n: Lengths) -> u64
+#[tactic(auto, unfolding(crate::specs::Words::function_word))]
+pub fn function(first: u64, kind: Kind, n: Lengths) -> u64
     ensures { result ≡ function_word first kind n }
 {
     first % 4294967296
@@ -41,7 +43,8 @@ pub fn held(function: u64, cell: u16) -> u16
 }
 
 // A parameter: how many values it has in bits 0 to 15, and the number of the first in bits 16 to 31.
-pub fn kind(kind: u8, n: Lengths) -> u64
+#[tactic(auto, unfolding(crate::specs::Words::kind_word))]
+pub fn kind(kind: Kind, n: Lengths) -> u64
     ensures { result ≡ kind_word kind n }
 {
     codes::radix(kind, n) % 65536 + codes::lowest(kind) * 65536

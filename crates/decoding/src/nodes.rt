@@ -6,7 +6,8 @@ use crate::functions::WORDS;
 
 // The sorts of decoded nodes. hd, tl and null of a parameter have sorts of their own; so has an if whose
 // condition is a parameter, or null or hd of one, a call of a function with a guard list result, any other call with
-// one argument, and of the rest a call whose arguments are all leaves.
+// one argument, and of the rest a call whose arguments are all leaves. They are numbers, and no enum: a sort is read out of four bits
+// of a node's word at every visit.
 pub const CONSTANT: u64 = 0;
 
 pub const PARAM: u64 = 1;
@@ -42,15 +43,16 @@ pub const CALL_LEAVES: u64 = 15;
 // A node: its sort in bits 0 to 3, a small number in bits 8 to 15, and four places of 12 bits. The small
 // number is a parameter, or of a call the callee and 32 times the number of arguments. The places are those
 // of the operands, in their order; of a constant the first two have its number, the lowest 12 bits in the first.
+#[tactic(auto, unfolding(crate::specs::Words::packed))]
 pub fn node(sort: u64, small: u64, first: u16, second: u16, third: u16, fourth: u16) -> u64
     ensures { result ≡ packed sort small first second third fourth }
 {
     sort % 16
         + (small % 256) * 256
-        + ((first % 4096) as u64) * 65536
-        + ((second % 4096) as u64) * 268435456
-        + ((third % 4096) as u64) * 1099511627776
-        + ((fourth % 4096) as u64) * 4503599627370496
+        + u64::from(first % 4096) * 65536
+        + u64::from(second % 4096) * 268435456
+        + u64::from(third % 4096) * 1099511627776
+        + u64::from(fourth % 4096) * 4503599627370496
 }
 
 // The sort of a node.
@@ -61,17 +63,11 @@ pub fn sort(node: u64) -> u64
 }
 
 // Whether a node is a leaf: a constant, a parameter, its hd or its tl.
+#[tactic(auto, unfolding(crate::specs::Words::is_leaf))]
 pub fn is_leaf(node: u64) -> bool
     ensures { result ≡ is_leaf node }
 {
-    let sort = sort(node);
-    if sort < HEAD {
-        return true;
-    }
-    if sort == HEAD_PARAM {
-        return true;
-    }
-    sort == TAIL_PARAM
+    matches!(sort(node), CONSTANT | PARAM | HEAD_PARAM | TAIL_PARAM)
 }
 
 // The parameter of a node.

@@ -8,6 +8,7 @@ ghost use Rattle.decoding.specs.Decoding.{decoded_by, entry_of, entries_upto, wo
 use crate::functions::{FUNCTIONS, STRIDE, WORDS};
 use crate::{functions, nodes};
 use codes::Lengths;
+use semantics::{Contact, Kind};
 use syntax::Node;
 
 // Ends of expressions stand by the remainders of their places: an expression lies within a body, so the ends of the
@@ -17,6 +18,7 @@ const ENDS: usize = syntax::MOST_BODY;
 // Writes the words of a program and of so many functions, at most 32. `functions` has their first cells from 0
 // on and their signatures from 32 on; `n` are the lengths of the traces. A program's bytes beyond the longest are passed
 // over.
+#[tactic(auto, unfolding(crate::specs::Decoding::words_filled))]
 pub fn fill(
     program: &[u8],
     params: &[u8; 32],
@@ -32,18 +34,17 @@ pub fn fill(
 }
 
 // Writes the words of so many functions, at most 32.
+#[tactic(auto, unfolding(crate::specs::Decoding::entries_upto))]
 fn put_functions(functions: &[u64; 96], count: u8, n: Lengths, words: &mut [u64; WORDS])
     ensures { words.new ≡ entries_upto functions.now n (stride * min count most_functions) words.old }
 {
-    let last = STRIDE * codes::smaller(count as usize, syntax::MOST_FUNCTIONS as usize);
-    let mut k: usize = 0;
-    while k < last {
+    for k in 0..STRIDE * usize::from(count.min(syntax::MOST_FUNCTIONS)) {
         words[FUNCTIONS + k] = entry(functions, n, k);
-        k += 1;
     }
 }
 
 // Word k of the functions.
+#[tactic(auto, unfolding(crate::specs::Decoding::entry_of))]
 fn entry(functions: &[u64; 96], n: Lengths, k: usize) -> u64
     requires { k < 256 }
     ensures { result ≡ entry_of functions.now n k }
@@ -63,9 +64,8 @@ fn put_nodes(program: &[u8], params: &[u8; 32], functions: &[u64; 96], words: &m
     ensures { words.new ≡ words_down program.now params.now functions.now (replicate most_body 0) (min most_bytes (length program.now)) 0 words.old }
 {
     let mut ends = [0u16; ENDS];
-    let mut at = codes::smaller(syntax::MOST_BYTES, program.len());
-    while 0 < at {
-        at -= 1;
+    let len = program.len().min(syntax::MOST_BYTES);
+    for at in (0..len).rev() {
         let node = syntax::node_of(program[at]);
         let next = words[at + 1];
         words[at] = decoded(params, functions, &ends, words, (at + 1) as u16, next, node);
@@ -91,14 +91,13 @@ fn decoded(
         Node::True => constant(codes::TRUE),
         Node::Empty => constant(codes::SUFFIX),
         Node::EmptyGuard => constant(codes::GUARD_SUFFIX),
-        Node::Param(i) => nodes::node(nodes::PARAM, i as u64, 0, 0, 0, 0),
+        Node::Param(i) => nodes::node(nodes::PARAM, u64::from(i), 0, 0, 0, 0),
         Node::Head => unary(nodes::HEAD, nodes::HEAD_PARAM, first, next),
         Node::Tail => unary(nodes::TAIL, nodes::TAIL_PARAM, first, next),
         Node::Null => unary(nodes::NULL, nodes::NULL_PARAM, first, next),
         Node::If => with_operands(ends, conditional(next), nodes::param(next) as u64, first),
-        Node::Cons => constant(codes::UNDECIDED),
         Node::Call(g) => call(params, functions, ends, words, g, first),
-        Node::Unknown => constant(codes::UNDECIDED),
+        Node::Cons | Node::Unknown => constant(codes::UNDECIDED),
     }
 }
 
@@ -123,17 +122,12 @@ fn unary(sort: u64, of_param: u64, first: u16, operand: u64) -> u64
 fn conditional(condition: u64) -> u64
     ensures { result ≡ conditional_by condition }
 {
-    let sort = nodes::sort(condition);
-    if sort == nodes::PARAM {
-        return nodes::IF_PARAM;
+    match nodes::sort(condition) {
+        nodes::PARAM => nodes::IF_PARAM,
+        nodes::NULL_PARAM => nodes::IF_NULL,
+        nodes::HEAD_PARAM => nodes::IF_HEAD,
+        _ => nodes::IF,
     }
-    if sort == nodes::NULL_PARAM {
-        return nodes::IF_NULL;
-    }
-    if sort == nodes::HEAD_PARAM {
-        return nodes::IF_HEAD;
-    }
-    nodes::IF
 }
 
 // A call of function g.
@@ -148,34 +142,33 @@ fn call(
     ensures { result ≡ called_by functions.now ends.now words.now (arguments_of params.now g) g first }
 {
     let count = arguments(params, g);
-    let result = syntax::kind_at(functions[32 + (g % 32) as usize], 4);
-    let small = (g % 32) as u64 + 32 * count;
+    let result = syntax::kind_at(functions[32 + usize::from(g % 32)], 4);
+    let small = u64::from(g % 32) + 32 * count;
     let places = nodes::places(with_operands(ends, nodes::CALL, small, first));
     let sort = call_sort(result, count, leaves(words, count, places));
     with_operands(ends, sort, small, first)
 }
 
 // Whether so many operands are leaves, by their places, the first in the lowest 12 bits.
+#[tactic(auto, unfolding(crate::specs::Decoding::leaves_in))]
 fn leaves(words: &[u64; WORDS], count: u64, places: u64) -> bool
     ensures { result ≡ leaves_in words.now count places }
 {
-    let mut left = count;
     let mut rest = places;
-    while 0 < left {
+    for _ in 0..count {
         if !nodes::is_leaf(nodes::at(words, rest)) {
             return false;
         }
-        rest = rest / 4096;
-        left -= 1;
+        rest /= 4096;
     }
     true
 }
 
 // The sort of a call, by the callee's result kind, the number of arguments and whether they are leaves.
-fn call_sort(res: u8, count: u64, leaves: bool) -> u64
+fn call_sort(res: Kind, count: u64, leaves: bool) -> u64
     ensures { result ≡ call_sort_of res count leaves }
 {
-    if res == syntax::GUARD {
+    if res == Kind::List(Contact::Guard) {
         return nodes::CALL_GUARD;
     }
     if count == 1 {
@@ -199,21 +192,21 @@ fn with_operands(ends: &[u16; ENDS], sort: u64, small: u64, first: u16) -> u64
 }
 
 // Where the expression at a place ends.
+#[tactic(auto, unfolding(crate::specs::Decoding::end_at))]
 fn end_at(ends: &[u16; ENDS], at: u16) -> u16
     ensures { result ≡ end_at ends.now at }
 {
-    ends[at as usize % ENDS]
+    ends[usize::from(at) % ENDS]
 }
 
 // The end of so many expressions, one after the other from a place on.
+#[tactic(auto, unfolding(crate::specs::Decoding::ends_after))]
 fn end_after(ends: &[u16; ENDS], count: u64, first: u16) -> u16
     ensures { result ≡ ends_after ends.now count first }
 {
-    let mut left = count;
     let mut place = first;
-    while 0 < left {
+    for _ in 0..count {
         place = end_at(ends, place);
-        left -= 1;
     }
     place
 }
@@ -223,18 +216,11 @@ fn operands(params: &[u8; 32], node: Node) -> u64
     ensures { result ≡ operands_of params.now node }
 {
     match node {
-        Node::False => 0,
-        Node::True => 0,
-        Node::Empty => 0,
-        Node::EmptyGuard => 0,
-        Node::Param(_) => 0,
-        Node::Head => 1,
-        Node::Tail => 1,
-        Node::Null => 1,
+        Node::False | Node::True | Node::Empty | Node::EmptyGuard | Node::Param(_) => 0,
+        Node::Head | Node::Tail | Node::Null => 1,
         Node::If => 3,
-        Node::Cons => 0,
         Node::Call(g) => arguments(params, g),
-        Node::Unknown => 0,
+        Node::Cons | Node::Unknown => 0,
     }
 }
 
@@ -245,5 +231,5 @@ fn arguments(params: &[u8; 32], g: u8) -> u64
     if 32 <= g {
         return 0;
     }
-    rule::at_most_four(params[g as usize])
+    rule::at_most_four(params[usize::from(g)])
 }

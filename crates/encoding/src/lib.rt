@@ -3,87 +3,78 @@
 #![tactic(auto)]
 
 ghost use Rattle.std.specs.Prelude.{◌≡◌, [], ◌∷◌, ◌<◌, ◌≤◌, length, drop};
-ghost use Rattle.encoding.specs.{low_first, from_low, decimal, begins, place_after};
+ghost use Rattle.encoding.specs.{low_first, from_low, decimal, place_after};
 ghost use Rattle.encoding.specs.{put as encoding_put};
 ghost use Rattle.encoding.specs.{figure as encoding_figure};
 
+// Numbers of 16 and of 32 bits have functions of their own, each over std's for its width: one for both would ask for a trait with
+// these bodies.
+
 // A number of 16 bits, low byte first.
+#[tactic(auto, unfolding(crate::specs::low_first))]
 pub fn low16(x: u16) -> [u8; 2]
     ensures { result ≡ low_first 2 x }
 {
-    [(x % 256) as u8, (x / 256) as u8]
+    u16::to_le_bytes(x)
 }
 
 // A number of 32 bits, low byte first.
+#[tactic(auto, unfolding(crate::specs::low_first))]
 pub fn low32(x: u32) -> [u8; 4]
     ensures { result ≡ low_first 4 x }
 {
-    [
-        (x % 256) as u8,
-        (x / 256 % 256) as u8,
-        (x / 65536 % 256) as u8,
-        (x / 16777216) as u8,
-    ]
+    u32::to_le_bytes(x)
 }
 
 // The number of two bytes, low byte first.
+#[tactic(auto, unfolding(crate::specs::from_low))]
 pub fn from16(low: u8, high: u8) -> u16
     ensures { result ≡ from_low (low ∷ high ∷ []) }
 {
-    (low as u16) + 256 * (high as u16)
+    u16::from_le_bytes([low, high])
 }
 
 // The number of four bytes, low byte first.
+#[tactic(auto, unfolding(crate::specs::from_low))]
 pub fn from32(a: u8, b: u8, c: u8, d: u8) -> u32
     ensures { result ≡ from_low (a ∷ b ∷ c ∷ d ∷ []) }
 {
-    (from16(a, b) as u32) + 65536 * (from16(c, d) as u32)
+    u32::from_le_bytes([a, b, c, d])
 }
 
-// Puts a text into the output at a place, and answers the place after it.
+// Puts a text into the output at a place, and answers the place after it. Output and place are no struct: docs/PROMISES.md names
+// these two functions with clauses on both, and a function that takes a struct holding a lent output has to promise besides that
+// it still holds that one.
 pub fn put(out: &mut [u8], at: usize, text: &[u8]) -> usize
     ensures place { result ≡ place_after at text.now out.old }
     ensures output { out.new ≡ encoding_put at text.now out.old }
 {
     let len = out.len();
     let size = text.len();
-    if len < at {
+    if len < at || len - at < size {
         return at;
     }
-    if len - at < size {
-        return at;
-    }
-    copy(&mut out[at..], text);
-    at + size
+    let end = at + size;
+    out[at..end].copy_from_slice(text);
+    end
 }
 
-// Copies a text to the front of the output.
-fn copy(out: &mut [u8], text: &[u8])
-    requires { length text.now ≤ length out.old }
-    ensures { out.new ≡ begins text.now out.old }
-{
-    let mut i: usize = 0;
-    while i < text.len() {
-        out[i] = text[i];
-        i += 1;
-    }
-}
-
-// Puts a number in decimal into the output at a place, and answers the place after it.
+// Puts a number in decimal into the output at a place, and answers the place after it. It is not printed by std's Display:
+// that writes to a String, which is on the heap, or to a `fmt::Write`, and an impl of this for a lent output is longer.
 pub fn put_decimal(out: &mut [u8], at: usize, n: u32) -> usize
     ensures place { result ≡ place_after at (decimal n) out.old }
     ensures output { out.new ≡ encoding_put at (decimal n) out.old }
 {
-    let mut figures = [0u8; 10];
-    let first = figures_of(n, &mut figures);
+    let (figures, first) = figures_of(n);
     put(out, at, &figures[first..])
 }
 
-// Writes a number's digits to the end of ten figures, and answers the place of the first.
-fn figures_of(n: u32, figures: &mut [u8]) -> usize
-    requires { length figures.old ≡ 10 }
-    ensures { (result ≤ 9) × (drop result figures.new ≡ decimal n) }
+// A number's digits at the end of ten figures, and the place of the first. The rest of the number ends the loop, and a `for`
+// over the places would be left from its middle.
+fn figures_of(n: u32) -> ([u8; 10], usize)
+    ensures { (result.1 ≤ 9) × (drop result.1 result.0 ≡ decimal n) }
 {
+    let mut figures = [0u8; 10];
     let mut rest = n;
     let mut first: usize = 9;
     figures[first] = figure(rest % 10);
@@ -92,7 +83,7 @@ fn figures_of(n: u32, figures: &mut [u8]) -> usize
         first -= 1;
         figures[first] = figure(rest % 10);
     }
-    first
+    (figures, first)
 }
 
 // The character of a digit.
@@ -100,5 +91,5 @@ fn figure(digit: u32) -> u8
     requires { digit < 10 }
     ensures { result ≡ encoding_figure digit }
 {
-    48 + (digit as u8)
+    b'0' + (digit as u8)
 }

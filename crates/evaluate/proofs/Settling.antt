@@ -21,7 +21,7 @@ use Rattle.semantics.specs.Verdicts.{main_decision, main_cell, verdict_of}
 use Rattle.semantics.proofs.Numbering.{size_pos}
 use Rattle.semantics.proofs.Passes.{length_after}
 use Rattle.rule.specs.declared.Outline.{Outline}
-use Rattle.rule.specs.declared.Sorts.TheVariants.{Both}
+use Rattle.std.specs.Prelude.{None}
 use Rattle.rule.specs.Outline.{outline_of}
 use Rattle.rule.proofs.Programs.{read-encoded}
 use Rattle.rule.specs.Reading.{program_in, program_of}
@@ -39,9 +39,9 @@ use Rattle.passes.proofs.PassMeaning.{Runs, pass_means, counts_mean}
 use Rattle.fixpoint.proofs.FinalMeaning.{table_means, passes_mean}
 use Rattle.passes.proofs.RunsMeaning.{runs}
 
-module _ {bytes : List ℕ} {h : Handed} {outline : Outline} {places : Cells} {lent : ℕ} (u : Settled bytes h outline places lent) where
+module _ {bytes : List ℕ} {h : Handed} {outline : Outline} {places : Cells} {lent : ℕ} (u : Settled bytes h outline places lent) {n : Lengths} (e : n ≡ lengths_of h) where
   pub program_is : program_of bytes ≡ u.program
-  program_is = ap program_in (read-encoded bytes h.sort u.program u.accepted Both refl)
+  program_is = ap program_in (read-encoded bytes h.sort u.program u.accepted None refl)
 
   functions_are : outline.functions ≡ length u.program
   unfolding outline_of
@@ -49,9 +49,6 @@ module _ {bytes : List ℕ} {h : Handed} {outline : Outline} {places : Cells} {l
 
   abbrev t : Traces
   t = samples_of h
-
-  abbrev n : Lengths
-  n = lengths_of h
 
   -- main's cell is one of the cells
   main-below : main_cell t u.program < cells t u.program
@@ -62,7 +59,7 @@ module _ {bytes : List ℕ} {h : Handed} {outline : Outline} {places : Cells} {l
       main-fits (f₀ ∷ P) f e = omega (arith, size_pos t f₀.params)
 
   main_is : main_cell_of places.functions n ≡ main_cell t u.program
-  main_is = rw u.first (main_cell_means u.accepted t n (lengths_are h.ram h.guard n) u.few)
+  main_is = rw (e, u.first) (main_cell_means u.accepted t (lengths_of h) (lengths_are h.ram h.guard (lengths_of h)) u.few)
 
   -- and there are not many of these
   pub main-small : main_cell_of places.functions n < most_cells
@@ -80,7 +77,7 @@ module _ {bytes : List ℕ} {h : Handed} {outline : Outline} {places : Cells} {l
     S = setup words places.functions bytes_of
 
     pub run_here : Runs u.program t n bytes S outline.starts
-    run_here = rw (w, z, functions_are, u.first, u.laid) (runs u.accepted h.ram h.guard n u.few u.fits)
+    run_here = let w = rw e at w in rw (e, w, z, functions_are, u.first, u.laid) (runs u.accepted h.ram h.guard (lengths_of h) u.few u.fits)
 
     -- the needed cells are cleared, those beyond keep their content
     module _ (T₀ : List ℕ) (room : lent ≤ length T₀) {T : List ℕ} (c : T ≡ cleared places.total T₀) where

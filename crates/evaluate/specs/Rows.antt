@@ -1,13 +1,13 @@
 -- 'Programs tried' of document 01: the rows marked as proved, A to H, as one table, and what it is that evaluating gives
 -- each of them.
-use Rattle.std.specs.Prelude.{ℕ, Bool, true, false, ◌&&◌, List, [], ◌∷◌, eqb, length}
+use Rattle.std.specs.Prelude.{ℕ, Bool, true, false, ◌&&◌, List, [], ◌∷◌, eqb, length, Result, Ok, Err}
+use Rattle.refusal.specs.declared.Refusal.{Refusal}
 use Rattle.refusal.specs.{number_of}
 use Rattle.trace.specs.{pack}
+use Rattle.semantics.specs.declared.Verdict.{Verdict}
 use Rattle.semantics.specs.Language.{Trace}
 use Rattle.semantics.specs.Handed.{one_trace}
 use Rattle.semantics.specs.Verdicts.{verdict_number}
-use Rattle.evaluate.specs.declared.Evaluated.{Evaluated}
-use Rattle.evaluate.specs.declared.Evaluated.TheVariants as evaluated
 use Rattle.evaluate.specs.Evaluate.{evaluation}
 
 -- the number of the verdict and the passes, or the number of the refusal
@@ -46,9 +46,9 @@ rows =
     ∷ []
 
 -- what evaluating answers, in a row's numbers
-abbrev pub answer_in : Evaluated → Answer
-answer_in (evaluated.Verdict v) = verdict (verdict_number v.decision) v.passes
-answer_in (evaluated.Refused f) = refusal (number_of f)
+abbrev pub answer_in : Result Verdict Refusal → Answer
+answer_in (Ok v) = verdict (verdict_number v.decision) v.passes
+answer_in (Err f) = refusal (number_of f)
 
 abbrev pub same_answer : Answer → Answer → Bool
 same_answer (verdict a m) (verdict b n) = eqb a b && eqb m n

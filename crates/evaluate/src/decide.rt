@@ -1,90 +1,56 @@
 // What a settled evaluation decides, and what one pass of it stores.
 ghost use Rattle.std.specs.Prelude.{◌≡◌, length};
-ghost use Rattle.semantics.specs.Handed.{handed, samples_of};
+ghost use Rattle.semantics.specs.Handed.{samples_of};
 ghost use Rattle.semantics.specs.Visits.{pass, pass_stores};
 ghost use Rattle.semantics.specs.Verdicts.{verdict_of};
 ghost use Rattle.semantics.specs.Passes.{decided_table};
 ghost use Rattle.rule.specs.Reading.{program_of};
-ghost use Rattle.prepare.specs.Settled.{Settled};
+ghost use Rattle.prepare.specs.Settled.{IsSettled, handed_in};
 
-use codes::Lengths;
 use decoding::functions::WORDS;
-use passes::setup;
-use passes::setup::Cells;
-use rule::Outline;
-use semantics::{Sort, Verdict};
+use prepare::Prepared;
+use semantics::Verdict;
 
 // The verdict of a settled evaluation of a sort, and its cells in the table.
-pub fn decide(
-    program: &[u8],
-    sort: Sort,
-    ram: &[u8],
-    guard: &[u8],
-    n: Lengths,
-    outline: Outline,
-    places: Cells,
-    table: &mut [u16],
-) -> Verdict
-    requires { Settled program.now (handed sort ram.now n.ram guard.now n.guard) outline places (length table.old) }
-    ensures verdict { result ≡ verdict_of (program_of program.now) (samples_of (handed sort ram.now n.ram guard.now n.guard)) }
-    ensures cells { table.new ≡ decided_table (program_of program.now) (samples_of (handed sort ram.now n.ram guard.now n.guard)) table.old }
+pub fn decide(ready: &Prepared, table: &mut [u16]) -> Verdict
+    requires { IsSettled ready.now (length table.old) }
+    ensures verdict { result ≡ verdict_of (program_of ready.now.program.now) (samples_of (handed_in ready.now.handed)) }
+    ensures cells { table.new ≡ decided_table (program_of ready.now.program.now) (samples_of (handed_in ready.now.handed)) table.old }
 {
     let mut words = [0u64; WORDS];
-    decoding::program::fill(
-        program,
-        &outline.params,
-        &places.functions,
-        outline.functions,
-        n,
-        &mut words,
-    );
-    passes::clear(table, places.total as usize);
+    ready.fill(&mut words);
+    passes::clear(table, ready.cells.total as usize);
     let passes = fixpoint::run(
         &words,
-        &setup::traces_of(ram, guard),
-        &places.functions,
+        &ready.traces(),
+        &ready.cells.functions,
         table,
-        n,
-        &outline.starts,
-        outline.functions,
+        ready.lengths,
+        &ready.outline.starts,
+        ready.outline.functions,
     );
+    let main = table[passes::main_cell(&ready.cells.functions, ready.lengths)];
     Verdict {
-        decision: semantics::main_decision(table[passes::main_cell(&places.functions, n)]),
+        decision: semantics::main_decision(main),
         passes,
     }
 }
 
 // One pass of a settled evaluation of a sort over the table as it is: how many outcomes it stored.
-pub fn pass_once(
-    program: &[u8],
-    sort: Sort,
-    ram: &[u8],
-    guard: &[u8],
-    n: Lengths,
-    outline: Outline,
-    places: Cells,
-    table: &mut [u16],
-) -> usize
-    requires { Settled program.now (handed sort ram.now n.ram guard.now n.guard) outline places (length table.old) }
-    ensures stored { result ≡ pass_stores (program_of program.now) (samples_of (handed sort ram.now n.ram guard.now n.guard)) table.old }
-    ensures cells { table.new ≡ pass (program_of program.now) (samples_of (handed sort ram.now n.ram guard.now n.guard)) table.old }
+pub fn pass_once(ready: &Prepared, table: &mut [u16]) -> usize
+    requires { IsSettled ready.now (length table.old) }
+    ensures stored { result ≡ pass_stores (program_of ready.now.program.now) (samples_of (handed_in ready.now.handed)) table.old }
+    ensures cells { table.new ≡ pass (program_of ready.now.program.now) (samples_of (handed_in ready.now.handed)) table.old }
 {
     let mut words = [0u64; WORDS];
-    decoding::program::fill(
-        program,
-        &outline.params,
-        &places.functions,
-        outline.functions,
-        n,
-        &mut words,
-    );
+    ready.fill(&mut words);
     passes::pass(
         &words,
-        &setup::traces_of(ram, guard),
-        &places.functions,
+        &ready.traces(),
+        &ready.cells.functions,
         table,
-        n,
-        &outline.starts,
-        outline.functions,
+        ready.lengths,
+        &ready.outline.starts,
+        ready.outline.functions,
     )
 }

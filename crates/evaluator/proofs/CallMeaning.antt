@@ -9,7 +9,9 @@ use lib.ListN.{get_elem?}
 use lib.Dec as dec
 use Rattle.semantics.specs.declared.Outcome.{Outcome}
 use Rattle.semantics.specs.declared.Outcome.TheVariants.{Truth, Suffix, Failed}
-use Rattle.semantics.specs.Language.{Kind, Function, Program, Traces, Value, bit, suffix, given, in_kind, InKinds, only}
+use Rattle.semantics.specs.declared.Kind.{Kind}
+use Rattle.semantics.specs.declared.Demand.TheVariants.{Only as only}
+use Rattle.semantics.specs.Language.{Function, Program, Traces, Value, bit, suffix, given, in_kind, InKinds}
 use Rattle.semantics.specs.Rules.{Arguments, values, failed}
 use Rattle.semantics.specs.Numbering.{kind_size, digit_of, size, number, cell_of, most_cells}
 use Rattle.semantics.specs.Cells.{content_of, outcome_in}
@@ -17,7 +19,6 @@ use Rattle.semantics.specs.Bodies.{with_value, with_values}
 use Rattle.semantics.specs.Visits.{Table, lookup}
 use Rattle.semantics.proofs.Numbering.{size_pos, number_lt}
 use Rattle.semantics.proofs.Visits.{lookup-held}
-use Rattle.syntax.specs.Kinds.{kind_number}
 use Rattle.codes.specs.declared.Lengths.{Lengths}
 use Rattle.codes.specs.{working_of, lowest_code, foreign}
 use Rattle.codes.proofs.CodeMeaning.{ShortTraces, LengthsOf, OfDemand, working_content, radix_means, value_own, value_digit, none_foreign, failed-foreign}
@@ -75,7 +76,7 @@ module _ (t : Traces) (κ : Kind) (index : ℕ) (low : index < bound) (c : ℕ) 
     (more : (v : Value) → dec.T (in_kind t κ v) → later (index * kind_size t κ + digit_of v) ≡ content_of (with_values Failed rs (λ ws. k (v ∷ ws)))) where
   -- what a call makes of an argument
   abbrev taken : ℕ
-  taken = cond (foreign (lowest_code (kind_number κ)) (kind_size t κ) c) c (later (next_index index (kind_size t κ) (c - lowest_code (kind_number κ))))
+  taken = cond (foreign (lowest_code κ) (kind_size t κ) c) c (later (next_index index (kind_size t κ) (c - lowest_code κ)))
 
   value_means : (v : Value) → dec.T (in_kind t κ v) → c ≡ working_of (given v)
       → taken ≡ content_of (with_values Failed (with_values failed rs (λ ws. some (values (v ∷ ws)))) k)
@@ -92,7 +93,7 @@ module _ (t : Traces) (κ : Kind) (index : ℕ) (low : index < bound) (c : ℕ) 
 -- a call of function g that has taken its arguments up to i, their number so far being `index`: the kinds of those that are
 -- due, and what is looked up with their values
 pub record Due (t : Traces) (n : Lengths) (words : List ℕ) (T : Table) (g : ℕ) (κs : List Kind) (i index : ℕ) (k : List Value → Option Outcome) : Type 0 where
-  pub kinds : (j : ℕ) (κ : Kind) → get_elem? κs j ≡ some κ → param_at words g (i + j) ≡ kind_word (kind_number κ) n
+  pub kinds : (j : ℕ) (κ : Kind) → get_elem? κs j ≡ some κ → param_at words g (i + j) ≡ kind_word κ n
   pub fits : suc index * size t κs ≤ most_cells
   pub found : (vs : List Value) → InKinds t κs vs → lookup_by (function_at words g) T (index * size t κs + number t κs vs) ≡ content_of (k vs)
 
@@ -127,10 +128,10 @@ module _ (t : Traces) (n : Lengths) (words : List ℕ) (T : Table) (g i index : 
     args_one short ls eval at rest r rs h place q more =
         let low : index < bound = omega (arith, below_product (suc index) (size t (κ ∷ κs)) most_cells (size_pos t (κ ∷ κs)) due.fits) in
         let first : i + 0 ≡ i = omega arith in
-        let kind : param_at words g i ≡ kind_word (kind_number κ) n = rw first at (due.kinds 0 κ refl) in
+        let kind : param_at words g i ≡ kind_word κ n = rw first at (due.kinds 0 κ refl) in
         let many : values_in (param_at words g i) ≡ kind_size t κ =
-        ap values_in kind ∙ values_in_lem (kind_number κ) n (lengths_short short ls) ∙ radix_means ls κ in
-        let lowest : lowest_in (param_at words g i) ≡ lowest_code (kind_number κ) = ap lowest_in kind ∙ lowest_in_lem (kind_number κ) n in
+        ap values_in kind ∙ values_in_lem κ n (lengths_short short ls) ∙ radix_means ls κ in
+        let lowest : lowest_in (param_at words g i) ≡ lowest_code κ = ap lowest_in kind ∙ lowest_in_lem κ n in
         rw (place, many, lowest, add-one i)
         (arg_means t κ index low (eval at) (λ next. args_in words T eval g (length κs) (suc i) next (rest / 4096)) rs k more r h q)
 

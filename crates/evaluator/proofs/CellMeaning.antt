@@ -11,7 +11,6 @@ use Rattle.semantics.specs.Language.{Function, Program, Traces, Value}
 use Rattle.semantics.specs.Numbering.{size, number, values_at, cells, cell_of, config_at}
 use Rattle.semantics.specs.Cells.{content_of, outcome_in}
 use Rattle.semantics.proofs.Numbering.{number-values, values_in_lem, config_cell}
-use Rattle.syntax.specs.Kinds.{kind_number}
 use Rattle.codes.specs.declared.Lengths.{Lengths}
 use Rattle.codes.proofs.CodeMeaning.{decided_means}
 use Rattle.codes.proofs.Bounds.{lengths_short}
@@ -47,11 +46,11 @@ module _ {P : Program} {t : Traces} {n : Lengths} {bytes words traces : List ℕ
   pub held_means : (cell : ℕ) → held_in (function_at words g) cell ≡ content_of (outcome_in t f.result cell)
   held_means cell =
       rw (s.function g f e)
-      (held_in_lem (first_cell t P g) (kind_number f.result) n cell (lengths_short s.samples s.lengths)
+      (held_in_lem (first_cell t P g) f.result n cell (lengths_short s.samples s.lengths)
       ∙ decided_means s.lengths f.result cell)
 
   pub first_is : first_in (function_at words g) ≡ first_cell t P g
   first_is =
       rw (s.function g f e)
-      (first_in_lem (first_cell t P g) (kind_number f.result) n
+      (first_in_lem (first_cell t P g) f.result n
       ∙ mod-eq_of_lt (omega (arith, first-within t P g f e, s.fits)))

@@ -10,7 +10,11 @@ use Rattle.semantics.specs.declared.Contact.TheVariants.{Ram, Guard}
 use Rattle.semantics.specs.declared.Error.TheVariants.{Head, Tail}
 use Rattle.semantics.specs.declared.Outcome.{Outcome}
 use Rattle.semantics.specs.declared.Outcome.TheVariants.{Truth, Suffix, Failed}
-use Rattle.semantics.specs.Language.{Kind, truth, Op, hd, tl, null, Expr, constant, empty, param, op, ifte, call, Args, no_args, arg, Function, Program, Traces, Value, InKinds, Demand, only, any_list, operand_demand, Meets, MeetAll}
+use Rattle.semantics.specs.declared.Kind.{Kind}
+use Rattle.semantics.specs.declared.Kind.TheVariants.{Truth as truth}
+use Rattle.semantics.specs.declared.Demand.{Demand}
+use Rattle.semantics.specs.declared.Demand.TheVariants.{Only as only, AnyList as any_list}
+use Rattle.semantics.specs.Language.{Op, hd, tl, null, Expr, constant, empty, param, op, ifte, call, Args, no_args, arg, Function, Program, Traces, Value, InKinds, operand_demand, Meets, MeetAll}
 use Rattle.semantics.specs.Cells.{false_code, true_code, suffix_code, content_of}
 use Rattle.semantics.specs.Bodies.{param_value, body_outcome, args_outcome, with_value, with_values, operated, chosen}
 use Rattle.semantics.specs.Visits.{Table, lookup}
@@ -19,7 +23,7 @@ use Rattle.semantics.proofs.Bodies.{value_there, kinded}
 use Rattle.semantics.proofs.Visits.{lookup-kinds}
 use Rattle.syntax.specs.declared.Node.{Node}
 use Rattle.syntax.specs.Limits.{most_params, most_body}
-use Rattle.syntax.specs.Kinds.{kind_number, kind_in}
+use Rattle.syntax.specs.Kinds.{kind_in}
 use Rattle.rule.specs.Form.{encode_expr, encode_args, depth, depth_all}
 use Rattle.syntax.specs.Bytes.{node_of}
 use Rattle.rule.proofs.NodeBytes.{node_false, node_true, node_empty, node_empty_guard, node_if, node_op, node_param, node_call}
@@ -111,9 +115,9 @@ module _ (P : Program) (t : Traces) (n : Lengths) (bytes W traces : List ℕ) (s
       → length f.params ≤ 4 → Within low ends (length f.params) first → ((p : ℕ) → low ≤ p → get_or later p 0 ≡ get_or W p 0)
       → let small = g % 32 + 32 * length f.params in
       called_by s.array ends later (arguments_of s.counts g) g first
-      ≡ placed ends (call_sort_of (kind_number f.result) (length f.params) (leaves_in W (length f.params) (places_of (placed ends call_sort small first)))) small first
+      ≡ placed ends (call_sort_of f.result (length f.params) (leaves_in W (length f.params) (places_of (placed ends call_sort small first)))) small first
   called_by_lem low ends later g f first e below few inside kept =
-      let kind : kind_in (signature_in s.array (g % 32)) 4 ≡ kind_number f.result =
+      let kind : kind_in (signature_in s.array (g % 32)) 4 ≡ f.result =
       ap (λ (k : ℕ). kind_in (signature_in s.array k) 4) (mod-eq_of_lt below) ∙ s.results g f e in
       let small = g % 32 + 32 * length f.params in
       rw (s.arguments g f e, kind, leaves_kept low ends later W kept (length f.params) _ first (stand ends call_sort small first low (length f.params) few inside) inside)
@@ -255,8 +259,8 @@ module _ (P : Program) (t : Traces) (n : Lengths) (bytes W traces : List ℕ) (s
         let after = bytes_after bytes at q in
         let inside = args-within (eval d) (at + 1) x.ends x.right xs f.params (at + 1) rest (omega arith) (omega (arith, fits)) m.3 after in
         at_word (suc d) at (x.word ∙ called_by_lem (at + 1) x.ends x.later g f (at + 1) m.1 below few inside x.kept)
-        ∙ call-word W traces T env x.ends d g (length f.params) (at + 1) below few (args-deep P Γ xs f.params d m.3 l) (kind_number f.result)
-        ∙ ap (λ (k : ℕ). result_code (kind_number f.result) k)
+        ∙ call-word W traces T env x.ends d g (length f.params) (at + 1) below few (args-deep P Γ xs f.params d m.3 l) f.result
+        ∙ ap (λ (k : ℕ). result_code f.result k)
         (args_mean xs d l (at + 1) x.ends x.right g f.params 0 0 _ (at + 1) rest
         (calls g) m.3 (due_first P t n bytes W traces s T g f m.1) (omega arith) (omega (arith, fits)) (stand x.ends _ _ (at + 1) (at + 1) (length f.params) few inside) after)
         ∙ result_means t s.samples f.result (body_outcome t calls vs (call g xs)) (of_demand_lem (call g xs) (only f.result) (f, m.1, allows-own f.result, m.3))

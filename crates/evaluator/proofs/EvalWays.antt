@@ -1,21 +1,20 @@
 -- Laws of the mirror, one for each way through the code:
 --   Apart, apart_above                           a number that is none of the first so many
 --   eval_deep, eval_sort, eval_other             a word: no depth left, a sort, none of those that nodes have
---   branch_true, branch_false, branch_other      the branch that an outcome chooses
+--   branch_taken, branch_kept                    the branch that an outcome chooses, or none
 --   wraps                                        a difference that wraps round
+--   lookup_is                                    the number of a configuration that needs no cutting
 --   Along                                        a call that has gone past some of its arguments
---   not-below                                    an argument that has a digit
 --   function_at_lem, param_at_lem, first_param_at        the words of a function, by their places
---   args_count, one-stop, one_found              a call, by the number of its arguments
+--   args_count, one-stop, one_found, call_with_lem       a call, by the number of its arguments
 --   working_plain, working_guard                 what a call gave, by its sort
---   next_index_is, lookup_is                     digits and numbers of configurations that need no cutting
 --   lookup_past                                  what the table holds past its cells
-use Rattle.std.proofs.Common.{◌≡◌, ℕ, zero, suc, ◌+◌, ◌-◌, ◌*◌, ◌/◌, ◌%◌, ◌^◌, ◌<◌, ◌≤◌, Bool, true, false, cond, eqb, ltb, leb, List, length, get_or, sym, refl, ap, ◌∙◌, mod-eq_of_lt, sub-one, arith, ltb-false, ltb-true, eq-eqb, ne_eqb, le-leb}
+use Rattle.std.proofs.Common.{◌≡◌, ℕ, zero, suc, ◌+◌, ◌-◌, ◌*◌, ◌/◌, ◌%◌, ◌^◌, ◌<◌, ◌≤◌, Option, Some, None, Bool, true, false, cond, eqb, ltb, leb, List, length, get_or, sym, refl, ap, ◌∙◌, mod-eq_of_lt, mul-le-mul, sub-one, arith, ltb-false, ltb-true, leb-false, ne_eqb, le-leb}
 use lib.ListN.{get_or-eq_default}
 use borrow.Author.Tests.{lt-leb}
 use Rattle.codes.specs.{shifted_code, foreign}
-use Rattle.decoding.specs.Words.{call_sort, call_guard_sort, sort_of, second_place, third_place, functions_from, stride, first_in, least_in, most_in, held_in, values_in, lowest_in}
-use Rattle.evaluator.specs.{function_at, param_at, digit_bound, most_index, next_index, Digit, lookup_by, args_in, working_by, sort_by, eval_word, eval_at, branch_at}
+use Rattle.decoding.specs.Words.{call_sort, call_guard_sort, sort_of, first_place, second_place, third_place, functions_from, stride, first_in, least_in, most_in, held_in, values_in, lowest_in}
+use Rattle.evaluator.specs.{function_at, param_at, digit_bound, bound, most_index, next_index, Digit, lookup_by, passed_by, args_in, working_by, branch_word, call_by, sort_by, eval_word, eval_at, branch_at, call_with_at}
 
 -- a number that is none of the first so many
 abbrev pub Apart : ℕ → ℕ → Type 0
@@ -69,17 +68,26 @@ module _ (W traces T env : List ℕ) (d w : ℕ) where
         apart 15 (omega arith),
       )
 
-  pub branch_true : (c : ℕ) {v : ℕ} → c ≡ 2 → v ≡ get_or W (second_place w) 0 → branch_at W traces T env d w c ≡ eval_word W traces T env d v
+  -- the branch chosen, by the word that stands for it
+  pub branch_taken : (c : ℕ) {v : ℕ} → branch_word W w c ≡ Some v → branch_at W traces T env d w c ≡ eval_word W traces T env d v
   unfolding branch_at
-  branch_true c e q = simp (eq-eqb _ _ e, q)
+  branch_taken c {v} e = go (eqb c 2) (eqb c 1) e
+    where
+      go : (yes other : Bool) → cond yes (Some (get_or W (second_place w) 0)) (cond other (Some (get_or W (third_place w) 0)) None) ≡ Some v
+          → cond yes (eval_at W traces T env d (second_place w)) (cond other (eval_at W traces T env d (third_place w)) c) ≡ eval_word W traces T env d v
+      go true other e = ap (eval_word W traces T env d) cc
+      go false true e = ap (eval_word W traces T env d) cc
+      go false false e = absurd cc
 
-  pub branch_false : (c : ℕ) {v : ℕ} → (c ≡ 2 → ⊥) → c ≡ 1 → v ≡ get_or W (third_place w) 0 → branch_at W traces T env d w c ≡ eval_word W traces T env d v
+  pub branch_kept : (c : ℕ) → branch_word W w c ≡ None → branch_at W traces T env d w c ≡ c
   unfolding branch_at
-  branch_false c t e q = simp (ne_eqb _ _ t, eq-eqb _ _ e, q)
-
-  pub branch_other : (c : ℕ) → (c ≡ 2 → ⊥) → (c ≡ 1 → ⊥) → branch_at W traces T env d w c ≡ c
-  unfolding branch_at
-  branch_other c t f = simp (ne_eqb _ _ t, ne_eqb _ _ f)
+  branch_kept c e = go (eqb c 2) (eqb c 1) e
+    where
+      go : (yes other : Bool) → ◌≡◌ {A = Option ℕ} (cond yes (Some (get_or W (second_place w) 0)) (cond other (Some (get_or W (third_place w) 0)) None)) None
+          → cond yes (eval_at W traces T env d (second_place w)) (cond other (eval_at W traces T env d (third_place w)) c) ≡ c
+      go true other e = absurd cc
+      go false true e = absurd cc
+      go false false e = refl
 
 -- ---- Digits
 
@@ -100,8 +108,35 @@ wraps kind c r {low} h l e q = go (ltb c (lowest_in kind)) refl
         let same : r ≡ c - lowest_in kind = omega arith in
         (simp (t, same), λ o. same, back)
 
--- ---- Calls
+-- a value that is not foreign to its kind has a digit
+near : (kind v : ℕ) → foreign (lowest_in kind) (values_in kind) v ≡ false → (lowest_in kind ≤ v) × (v - lowest_in kind < values_in kind)
+near kind v = go (ltb v (lowest_in kind)) refl
+  where
+    go : (b : Bool) → ltb v (lowest_in kind) ≡ b → cond b true (leb (values_in kind) (v - lowest_in kind)) ≡ false
+        → (lowest_in kind ≤ v) × (v - lowest_in kind < values_in kind)
+    go true t f = absurd cc
+    go false t f = (ltb-false v (lowest_in kind) t, leb-false _ _ f)
 
+next_index_small : (index radix digit : ℕ) → radix < digit_bound → digit < radix → next_index index radix digit < most_index
+next_index_small index radix digit h k =
+    let product : index % bound * radix ≤ 4294967295 * 65535 = mul-le-mul {n₂ = 4294967295} {m₂ = 65535} (omega arith) (omega arith) in
+    omega arith
+
+pub lookup_is : (function : ℕ) (T : List ℕ) (index : ℕ) {x : ℕ} → index < most_index → x ≡ lookup_by function T (index % most_index) → x ≡ lookup_by function T index
+lookup_is function T index h e = e ∙ ap (lookup_by function T) (mod-eq_of_lt h)
+
+-- the one argument of a call, by its digit
+passed_stop : (kind v : ℕ) {digit : ℕ} → Digit kind v digit → values_in kind ≤ digit → passed_by kind 0 v ≡ None
+passed_stop kind v d l = let far : foreign (lowest_in kind) (values_in kind) v ≡ true = sym d.0 ∙ le-leb _ _ l in
+    rw far
+
+passed_one : (kind v : ℕ) {digit : ℕ} → Digit kind v digit → digit < values_in kind → passed_by kind 0 v ≡ Some digit
+passed_one kind v {digit} d l =
+    let own : foreign (lowest_in kind) (values_in kind) v ≡ false = sym d.0 ∙ lt-leb _ _ l in
+    let same : next_index 0 (values_in kind) (v - lowest_in kind) ≡ digit = omega (arith, d.1 (near kind v own).0) in
+    rw (own, same)
+
+-- ---- Calls
 -- a call of `count` arguments that has gone past i of them; the places of the others stand in `rest`
 pub record Along (W T : List ℕ) (eval : ℕ → ℕ) (g count places index rest i : ℕ) : Type 0 where
   pub below : i ≤ count
@@ -121,43 +156,44 @@ module _ {W T : List ℕ} {eval : ℕ → ℕ} {g count places index rest i : �
       let none : count - i ≡ 0 = omega arith in
       sym u.same ∙ ap (λ (c : ℕ). args_in W T eval g c i index rest) none ∙ ap (λ (f : ℕ). lookup_by f T index) (sym e)
 
-  module _ (h : i < count) {kind v : ℕ} (k : kind ≡ param_at W g i) (e : v ≡ eval (rest % 4096)) {digit : ℕ} (d : Digit kind v digit) where
+  module _ (h : i < count) {kind v : ℕ} (k : kind ≡ param_at W g i) (e : v ≡ eval (rest % 4096)) where
     next : args_in W T eval g count 0 0 places ≡ args_in W T eval g (suc (count - (i + 1))) i index rest
     next =
         let some : count - i ≡ suc (count - (i + 1)) = omega arith in
         sym u.same ∙ ap (λ (c : ℕ). args_in W T eval g c i index rest) some
 
-    pub along_stop : {values : ℕ} → values ≡ values_in kind → values ≤ digit → args_in W T eval g count 0 0 places ≡ v
+    pub along_stop : passed_by kind index v ≡ None → args_in W T eval g count 0 0 places ≡ v
     unfolding args_in
-    along_stop q l =
-        let far : foreign (lowest_in kind) (values_in kind) v ≡ true = sym d.0 ∙ le-leb _ _ (rw q at l) in
-        next ∙ simp (sym k, sym e, far)
+    along_stop p = go (foreign (lowest_in kind) (values_in kind) v) refl p
+      where
+        go : (b : Bool) → foreign (lowest_in kind) (values_in kind) v ≡ b
+            → ◌≡◌ {A = Option ℕ} (cond b None (Some (next_index index (values_in kind) (v - lowest_in kind)))) None
+            → args_in W T eval g count 0 0 places ≡ v
+        go true far p = next ∙ simp (sym k, sym e, far)
+        go false own p = absurd cc
 
-    goes : foreign (lowest_in kind) (values_in kind) v ≡ false
-        → args_in W T eval g count 0 0 places
+    turned : foreign (lowest_in kind) (values_in kind) v ≡ false
+        → args_in W T eval g (suc (count - (i + 1))) i index rest
         ≡ args_in W T eval g (count - (i + 1)) (i + 1) (next_index index (values_in kind) (v - lowest_in kind)) (rest / 4096)
     unfolding args_in
-    goes near = next ∙ simp (sym k, sym e, near)
+    turned own = simp (sym k, sym e, own)
 
-    pub along_more : {values x : ℕ} → values ≡ values_in kind → digit < values → lowest_in kind ≤ v → x ≡ next_index index values digit → x < most_index
-        → Along W T eval g count places x (rest / 4096) (i + 1)
-    along_more {x = x} q l o n b =
-        let near : foreign (lowest_in kind) (values_in kind) v ≡ false = sym d.0 ∙ lt-leb _ _ (rw q at l) in
-        let same : next_index index (values_in kind) (v - lowest_in kind) ≡ x = sym (n ∙ rw (q, d.1 o)) in
-        record {
-          below = omega arith;
-          most = u.most;
-          small = b;
-          same = sym (goes near ∙ ap (λ (y : ℕ). args_in W T eval g (count - (i + 1)) (i + 1) y (rest / 4096)) same);
-        }
-
--- a value that is not foreign to its kind is not below the lowest
-pub not-below : (kind v digit : ℕ) → Digit kind v digit → {values : ℕ} → values ≡ values_in kind → digit < values → lowest_in kind ≤ v
-not-below kind v digit d q l = go (ltb v (lowest_in kind)) refl (sym d.0 ∙ lt-leb _ _ (rw q at l))
-  where
-    go : (b : Bool) → ltb v (lowest_in kind) ≡ b → cond b true (leb (values_in kind) (v - lowest_in kind)) ≡ false → lowest_in kind ≤ v
-    go true t f = let z : ◌≡◌ {A = ℕ} 0 1 = cc in absurd (omega arith)
-    go false t f = ltb-false v (lowest_in kind) t
+    pub along_more : {x : ℕ} → passed_by kind index v ≡ Some x → Along W T eval g count places x (rest / 4096) (i + 1)
+    unfolding args_in
+    along_more {x} p = go (foreign (lowest_in kind) (values_in kind) v) refl p
+      where
+        go : (b : Bool) → foreign (lowest_in kind) (values_in kind) v ≡ b
+            → cond b None (Some (next_index index (values_in kind) (v - lowest_in kind))) ≡ Some x
+            → Along W T eval g count places x (rest / 4096) (i + 1)
+        go true far p = absurd cc
+        go false own p =
+            let same : next_index index (values_in kind) (v - lowest_in kind) ≡ x = cc in
+            record {
+              below = omega arith;
+              most = u.most;
+              small = rw (← same) (next_index_small index _ _ (omega arith) (near kind v own).1);
+              same = sym (next ∙ turned own ∙ ap (λ (y : ℕ). args_in W T eval g (count - (i + 1)) (i + 1) y (rest / 4096)) same);
+            }
 
 -- ---- Words of functions
 
@@ -183,30 +219,21 @@ working_plain number e q = q ∙ rw e
 pub working_guard : (number : ℕ) {sort x : ℕ} → sort ≡ call_guard_sort → x ≡ working_by sort number → x ≡ shifted_code number
 working_guard number e q = q ∙ rw e
 
--- one argument
-module _ (W T : List ℕ) (eval : ℕ → ℕ) (g places : ℕ) {kind v digit values : ℕ} (k : kind ≡ param_at W g 0) (e : v ≡ eval (places % 4096))
-    (d : Digit kind v digit) (q : values ≡ values_in kind) where
-  pub one-stop : values ≤ digit → args_in W T eval g 1 0 0 places ≡ v
-  one-stop l = along_stop (along_start W T eval g 1 places (omega arith)) (omega arith) k e d q l
+-- one argument, by its value
+module _ (W T : List ℕ) (g places v : ℕ) {kind : ℕ} (k : kind ≡ param_at W g 0) where
+  start : Along W T (λ (place : ℕ). v) g 1 places 0 places 0
+  start = along_start W T (λ (place : ℕ). v) g 1 places (omega arith)
 
-  pub one_found : digit < values → {f : ℕ} → f ≡ function_at W g → args_in W T eval g 1 0 0 places ≡ lookup_by f T digit
-  one_found l f =
-      let same : digit ≡ next_index 0 values digit = omega arith in
-      let small : digit < most_index = omega arith in
-      let start = along_start W T eval g 1 places (omega arith) in
-      along_end (along_more start (omega arith) k e d q l (not-below kind v digit d q l) same small) (omega arith) f
+  pub one-stop : {digit values : ℕ} → Digit kind v digit → values ≡ values_in kind → values ≤ digit → args_in W T (λ (place : ℕ). v) g 1 0 0 places ≡ v
+  one-stop d q l = along_stop start (omega arith) k refl (passed_stop kind v d (rw q at l))
 
--- ---- Numbers within their bounds
+  pub one_found : {digit values f : ℕ} → Digit kind v digit → values ≡ values_in kind → digit < values → f ≡ function_at W g
+      → args_in W T (λ (place : ℕ). v) g 1 0 0 places ≡ lookup_by f T digit
+  one_found d q l e = along_end (along_more start (omega arith) k refl (passed_one kind v d (rw q at l))) (omega arith) e
 
-pub next_index_is : (index radix digit : ℕ) {x : ℕ} → radix < digit_bound → digit < digit_bound
-    → x ≡ next_index index (radix % digit_bound) (digit % digit_bound) → x ≡ next_index index radix digit
-next_index_is index radix digit h k e =
-    e
-    ∙ ap (λ (r : ℕ). next_index index r (digit % digit_bound)) (mod-eq_of_lt h)
-    ∙ ap (λ (d : ℕ). next_index index radix d) (mod-eq_of_lt k)
-
-pub lookup_is : (function : ℕ) (T : List ℕ) (index : ℕ) {x : ℕ} → index < most_index → x ≡ lookup_by function T (index % most_index) → x ≡ lookup_by function T index
-lookup_is function T index h e = e ∙ ap (lookup_by function T) (mod-eq_of_lt h)
+pub call_with_lem : (W T : List ℕ) (eval : ℕ → ℕ) (w : ℕ) {v : ℕ} → v ≡ eval (first_place w) → call_with_at W T w v ≡ call_by W T eval w 1
+unfolding call_with_at args_in
+call_with_lem W T eval w e = rw e
 
 -- ---- What the table holds
 

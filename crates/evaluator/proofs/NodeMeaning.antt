@@ -6,19 +6,42 @@
 --   Stand, stand           the places of operands stand in a word
 --   leaves_kept            whether they are leaves, by words that are the same from a place on
 --   call-word              a call, by its callee's result kind
-use Rattle.std.proofs.Common.{◌≡◌, ℕ, zero, suc, ◌+◌, ◌-◌, ◌*◌, ◌/◌, ◌%◌, ◌<◌, ◌≤◌, Bool, true, false, cond, eqb, ltb, List, get_or, sym, refl, ap, ◌∙◌, mod-eq_of_lt, arith, ltb-true, eqb-true}
+use Rattle.std.proofs.Common.{◌≡◌, ℕ, zero, suc, ◌+◌, ◌-◌, ◌*◌, ◌/◌, ◌%◌, ◌<◌, ◌≤◌, Some, None, Bool, true, false, cond, eqb, ltb, List, get_or, sym, refl, ap, ◌∙◌, mod-eq_of_lt, arith, ltb-true, ltb-false, eqb-true, ne_eqb}
+use Rattle.std.specs.Option.{unwrap_or}
 use borrow.Author.Tests.{eqb-false}
-use Rattle.semantics.specs.Language.{Op, hd, tl, null}
+use Rattle.semantics.specs.Language.{is_guard, Op, hd, tl, null}
+use Rattle.semantics.specs.declared.Kind.{Kind}
 use Rattle.semantics.specs.Cells.{false_code, true_code}
 use Rattle.codes.specs.{head_of, tail_of, null_of, shifted_code, foreign}
-use Rattle.syntax.specs.Kinds.{guard_kind}
 use Rattle.codes.proofs.CodeMeaning.{result_code}
 use Rattle.rule.proofs.NodeBytes.{op_node}
 use Rattle.decoding.specs.Words.{constant_sort, param_sort, head_sort, tail_sort, null_sort, head_param_sort, tail_param_sort, null_param_sort, if_sort, if_param_sort, if_null_sort, if_head_sort, call_sort, call_one_sort, call_guard_sort, call_leaves_sort}
 use Rattle.decoding.specs.Words.{packed, sort_of, is_leaf, param_of, callee_of, count_of, places_of, constant_of, first_place, third_place, values_in, lowest_in}
 use Rattle.decoding.specs.Decoding.{end_at, constant_by, unary_by, conditional_by, placed, leaves_in, call_sort_of, decoded_by}
 use Rattle.decoding.proofs.Packing.{sort-packed, param-packed, callee-packed, count_packed, constant-packed, first-packed, second_packed, third_packed, places_alike, place_0, place_1, place_2, place_3}
-use Rattle.evaluator.specs.{param_at, next_index, param_in, branch_by, args_in, leaf_by, leaf_at, sort_by, eval_word, eval_at}
+use Rattle.evaluator.specs.{param_at, next_index, param_in, branch_by, args_in, leaf_by, leaf_of, leaf_at, sort_by, eval_word, eval_at}
+
+-- ---- Leaves
+
+-- other words are taken as constants
+leaf_other : (traces env : List ℕ) (w : ℕ) → is_leaf w ≡ false → leaf_by traces env w ≡ constant_of w
+unfolding leaf_by is_leaf
+leaf_other traces env w e = go (ltb (sort_of w) head_sort) refl (eqb (sort_of w) head_param_sort) refl (eqb (sort_of w) tail_param_sort) refl e
+  where
+    go : (low : Bool) → ltb (sort_of w) head_sort ≡ low → (head : Bool) → eqb (sort_of w) head_param_sort ≡ head
+        → (tail : Bool) → eqb (sort_of w) tail_param_sort ≡ tail → cond low true (cond head true tail) ≡ false → leaf_by traces env w ≡ constant_of w
+    go true l head h tail t e = absurd cc
+    go false l true h tail t e = absurd cc
+    go false l false h true t e = absurd cc
+    go false l false h false t e = let other : eqb (sort_of w) param_sort ≡ false = ne_eqb _ _ (λ q. omega (arith, ltb-false _ _ l)) in
+        rw (t, other, h)
+
+pub leaf_or : (traces env : List ℕ) (w : ℕ) → unwrap_or (leaf_of traces env w) (constant_of w) ≡ leaf_by traces env w
+leaf_or traces env w = go (is_leaf w) refl
+  where
+    go : (b : Bool) → is_leaf w ≡ b → unwrap_or (cond b (Some (leaf_by traces env w)) None) (constant_of w) ≡ leaf_by traces env w
+    go true t = refl
+    go false t = sym (leaf_other traces env w t)
 
 -- ---- Places in a word
 
@@ -234,6 +257,15 @@ module _ (W traces T env : List ℕ) where
     unfolding leaf_by
     leaf-word = tail-leaf (eqb (sort_of w) tail_param_sort) refl
 
+  -- what a leaf gives is the outcome, however much depth is left
+  pub leaf_taken : (d w : ℕ) {v : ℕ} → (d ≡ 0 → ⊥) → leaf_of traces env w ≡ Some v → eval_word W traces T env d w ≡ v
+  leaf_taken zero w z e = absurd (z refl)
+  leaf_taken (suc d) w {v} z e = go (is_leaf w) refl e
+    where
+      go : (b : Bool) → is_leaf w ≡ b → cond b (Some (leaf_by traces env w)) None ≡ Some v → eval_word W traces T env (suc d) w ≡ v
+      go true t e = sym (leaf-word d w t) ∙ cc
+      go false t e = absurd cc
+
   -- arguments that are leaves
   args_leaves : (d g k i index rest : ℕ) → (0 < k → 0 < d) → leaves_in W k rest ≡ true
       → args_in W T (leaf_at W traces env) g k i index rest ≡ args_in W T (there d) g k i index rest
@@ -320,8 +352,8 @@ module _ (W traces T env : List ℕ) where
     by_kind true = word-sort d (called call_guard_sort) 14 (sorted call_guard_sort) ∙ ap (λ (c : ℕ). shifted_code c) (by_word (there d) call_guard_sort)
     by_kind false = by_count (eqb count 1) refl
 
-    pub call-word : (kind : ℕ)
+    pub call-word : (kind : Kind)
         → let small = g % 32 + 32 * count in
         let word = placed ends (call_sort_of kind count (leaves_in W count (places_of (placed ends call_sort small first)))) small first in
         eval_word W traces T env (suc d) word ≡ result_code kind (args_in W T (there d) g count 0 0 (places_of word))
-    call-word kind = by_kind (eqb kind guard_kind)
+    call-word kind = by_kind (is_guard kind)

@@ -6,10 +6,11 @@
 use Rattle.std.proofs.Common.{◌≡◌, ℕ, ◌+◌, ◌<◌, ◌≤◌, List, length, get_or, take}
 use mathlib.Core.Option.{some}
 use lib.ListN.{get_elem?}
-use Rattle.semantics.specs.Language.{Kind, Function, Program, Traces, Value, given}
+use Rattle.semantics.specs.declared.Kind.{Kind}
+use Rattle.semantics.specs.Language.{Function, Program, Traces, Value, given}
 use Rattle.semantics.specs.Numbering.{cells, most_cells}
 use Rattle.syntax.specs.Limits.{most_functions, most_params, most_bytes}
-use Rattle.syntax.specs.Kinds.{kind_number, kind_in}
+use Rattle.syntax.specs.Kinds.{kind_in}
 use Rattle.codes.specs.declared.Lengths.{Lengths}
 use Rattle.codes.specs.{working_of}
 use Rattle.codes.proofs.CodeMeaning.{ShortTraces, LengthsOf, SaysTraces, Origins}
@@ -46,9 +47,9 @@ pub record Sets (P : Program) (t : Traces) (n : Lengths) (bytes words traces : L
   pub counts : List ℕ
   pub arguments : (g : ℕ) (f : Function) → get_elem? P g ≡ some f → arguments_of counts g ≡ length f.params
   pub array : List ℕ
-  pub results : (g : ℕ) (f : Function) → get_elem? P g ≡ some f → kind_in (signature_in array g) 4 ≡ kind_number f.result
+  pub results : (g : ℕ) (f : Function) → get_elem? P g ≡ some f → kind_in (signature_in array g) 4 ≡ f.result
   pub nodes : (at : ℕ) → at < length bytes → NodeFrom P bytes counts array words at
-  pub function : (g : ℕ) (f : Function) → get_elem? P g ≡ some f → function_at words g ≡ function_word (first_cell t P g) (kind_number f.result) n
+  pub function : (g : ℕ) (f : Function) → get_elem? P g ≡ some f → function_at words g ≡ function_word (first_cell t P g) f.result n
   pub param : (g i : ℕ) (f : Function) (κ : Kind) → get_elem? P g ≡ some f → get_elem? f.params i ≡ some κ
-      → param_at words g i ≡ kind_word (kind_number κ) n
+      → param_at words g i ≡ kind_word κ n
   pub says : SaysTraces t traces

@@ -1,10 +1,10 @@
 -- A mirror of the code: outcomes as their numbers, expressions by their decoded words. No reader need believe it: proofs/
 -- shows that it comes to what the rules say.
-use Rattle.std.specs.Prelude.{ℕ, zero, suc, ◌+◌, ◌-◌, ◌*◌, ◌/◌, ◌%◌, ◌^◌, ◌≤◌, ◌≡◌, cond, List, leb, eqb, get_or}
+use Rattle.std.specs.Prelude.{ℕ, zero, suc, ◌+◌, ◌-◌, ◌*◌, ◌/◌, ◌%◌, ◌^◌, ◌≤◌, ◌≡◌, cond, Option, Some, None, List, leb, eqb, get_or}
 use Rattle.semantics.specs.Cells.{undecided_code, false_code, true_code}
 use Rattle.codes.specs.{head_of, tail_of, null_of, shifted_code, foreign}
 use Rattle.decoding.specs.Words.{constant_sort, param_sort, head_sort, tail_sort, null_sort, head_param_sort, tail_param_sort, null_param_sort, if_sort, if_param_sort, if_null_sort, if_head_sort, call_sort, call_one_sort, call_guard_sort, call_leaves_sort}
-use Rattle.decoding.specs.Words.{sort_of, param_of, callee_of, count_of, places_of, constant_of, first_place, second_place, third_place, functions_from, stride, first_in, held_in, values_in, lowest_in}
+use Rattle.decoding.specs.Words.{sort_of, is_leaf, param_of, callee_of, count_of, places_of, constant_of, first_place, second_place, third_place, functions_from, stride, first_in, held_in, values_in, lowest_in}
 
 -- ---- Functions
 
@@ -41,6 +41,11 @@ Digit kind c digit =
 unfoldable pub lookup_by : ℕ → List ℕ → ℕ → ℕ
 lookup_by function table index = held_in function (get_or table (first_in function + index) 0)
 
+-- the number of a configuration with one argument's digit more; none where the argument is none of its parameter's values
+abbrev pub passed_by : ℕ → ℕ → ℕ → Option ℕ
+passed_by kind index value =
+    cond (foreign (lowest_in kind) (values_in kind) value) None (Some (next_index index (values_in kind) (value - lowest_in kind)))
+
 -- ---- Nodes
 
 -- so many arguments, from argument i on, whose places stand in `rest`, and then the look-up
@@ -54,6 +59,12 @@ args_in words table eval g (suc left) i index rest =
 
 abbrev pub branch_by : (ℕ → ℕ) → ℕ → ℕ → ℕ
 branch_by eval w chosen = cond (eqb chosen true_code) (eval (second_place w)) (cond (eqb chosen false_code) (eval (third_place w)) chosen)
+
+-- the word of the branch chosen; none where the condition's outcome is that of the if
+abbrev pub branch_word : List ℕ → ℕ → ℕ → Option ℕ
+branch_word words w chosen =
+    cond (eqb chosen true_code) (Some (get_or words (second_place w) 0))
+    (cond (eqb chosen false_code) (Some (get_or words (third_place w) 0)) None)
 
 abbrev pub call_by : List ℕ → List ℕ → (ℕ → ℕ) → ℕ → ℕ → ℕ
 call_by words table eval w count = args_in words table eval (callee_of w) count 0 0 (places_of w)
@@ -72,6 +83,10 @@ leaf_by traces env w =
     (cond (eqb (sort_of w) param_sort) (param_in env w)
     (cond (eqb (sort_of w) head_param_sort) (head_of traces env (param_in env w))
     (constant_of w)))
+
+-- and none for words that are no leaves
+abbrev pub leaf_of : List ℕ → List ℕ → ℕ → Option ℕ
+leaf_of traces env w = cond (is_leaf w) (Some (leaf_by traces env w)) None
 
 -- and the leaf at a place
 abbrev pub leaf_at : List ℕ → List ℕ → List ℕ → ℕ → ℕ
@@ -116,6 +131,10 @@ call_at words traces table env d w = call_by words table (eval_at words traces t
 
 unfoldable pub call_one_at : List ℕ → List ℕ → List ℕ → List ℕ → ℕ → ℕ → ℕ
 call_one_at words traces table env d w = call_by words table (eval_at words traces table env d) w 1
+
+-- a call of one argument, by the argument's value
+unfoldable pub call_with_at : List ℕ → List ℕ → ℕ → ℕ → ℕ
+call_with_at words table w value = call_by words table (λ (place : ℕ). value) w 1
 
 unfoldable pub call_leaves_at : List ℕ → List ℕ → List ℕ → List ℕ → ℕ → ℕ
 call_leaves_at words traces table env w = call_by words table (leaf_at words traces env) w (count_of w)

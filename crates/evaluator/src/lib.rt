@@ -2,15 +2,16 @@
 // bytes of both traces and the parameter values in others; an outcome is its working number.
 #![tactic(auto)]
 
-ghost use Rattle.std.specs.Prelude.{◌≡◌, ◌%◌, ◌<◌, slice_index};
-ghost use Rattle.decoding.specs.Words.{param_of};
-ghost use Rattle.evaluator.specs.{digit_bound, most_index, next_index, Digit, lookup_by, working_by, leaf_by, branch_at, call_at, call_one_at, call_leaves_at, eval_word};
+ghost use Rattle.std.specs.Prelude.{◌≡◌, ◌%◌, ◌<◌, cond, eqb, slice_index};
+ghost use Rattle.decoding.specs.Words.{param_sort, param_of, constant_of};
+ghost use Rattle.evaluator.specs.{digit_bound, most_index, next_index, Digit, lookup_by, passed_by, working_by, leaf_of, branch_word, branch_at, call_at, call_with_at, call_one_at, call_leaves_at, eval_word};
 
 use decoding::functions::{FUNCTIONS, STRIDE, WORDS};
 use decoding::{functions, nodes};
 
 // The number of the outcome of a node. The table is a reference to its slice: it goes from call to call as one
-// word. The sorts stand here by number, all sixteen, so that no range is tested.
+// word. The four that are lent stand as parameters, and in no struct: table and env change from cell to cell, so that a struct of
+// them would be made anew for each. All sixteen sorts stand here, so that no range is tested.
 #[cycle(branch_call_call_one_eval_operand)]
 pub fn eval(
     words: &[u64; WORDS],
@@ -28,19 +29,33 @@ pub fn eval(
     let left = depth - 1;
     let sort = nodes::sort(node);
     match sort {
-        0 => nodes::constant(node),
-        1 => param(env, node),
-        2 => codes::head(
+        nodes::CONSTANT => nodes::constant(node),
+        nodes::PARAM => param(env, node),
+        nodes::HEAD => codes::head(
             traces,
             env,
             operand(words, traces, table, env, left, nodes::first(words, node)),
         ),
-        3 => codes::tail(operand(words, traces, table, env, left, nodes::first(words, node))),
-        4 => codes::null(operand(words, traces, table, env, left, nodes::first(words, node))),
-        5 => codes::head(traces, env, param(env, node)),
-        6 => codes::tail(param(env, node)),
-        7 => codes::null(param(env, node)),
-        8 => branch(
+        nodes::TAIL => codes::tail(operand(
+            words,
+            traces,
+            table,
+            env,
+            left,
+            nodes::first(words, node),
+        )),
+        nodes::NULL => codes::null(operand(
+            words,
+            traces,
+            table,
+            env,
+            left,
+            nodes::first(words, node),
+        )),
+        nodes::HEAD_PARAM => codes::head(traces, env, param(env, node)),
+        nodes::TAIL_PARAM => codes::tail(param(env, node)),
+        nodes::NULL_PARAM => codes::null(param(env, node)),
+        nodes::IF => branch(
             words,
             traces,
             table,
@@ -49,8 +64,8 @@ pub fn eval(
             node,
             eval(words, traces, table, env, left, nodes::first(words, node)),
         ),
-        9 => branch(words, traces, table, env, left, node, param(env, node)),
-        10 => branch(
+        nodes::IF_PARAM => branch(words, traces, table, env, left, node, param(env, node)),
+        nodes::IF_NULL => branch(
             words,
             traces,
             table,
@@ -59,7 +74,7 @@ pub fn eval(
             node,
             codes::null(param(env, node)),
         ),
-        11 => branch(
+        nodes::IF_HEAD => branch(
             words,
             traces,
             table,
@@ -68,14 +83,17 @@ pub fn eval(
             node,
             codes::head(traces, env, param(env, node)),
         ),
-        12 | 14 => working(sort, call(words, traces, table, env, left, node)),
-        13 => call_one(words, traces, table, env, left, node),
-        15 => call_leaves(words, traces, table, env, node),
+        nodes::CALL | nodes::CALL_GUARD => working(
+            sort,
+            call(words, traces, table, env, left, node),
+        ),
+        nodes::CALL_ONE => call_one(words, traces, table, env, left, node),
+        nodes::CALL_LEAVES => call_leaves(words, traces, table, env, node),
         _ => codes::UNDECIDED,
     }
 }
 
-// As eval; a parameter, its tl and its hd are taken at once.
+// As eval; a leaf is taken at once.
 #[cycle(branch_call_call_one_eval_operand)]
 pub fn operand(
     words: &[u64; WORDS],
@@ -90,17 +108,10 @@ pub fn operand(
     if depth == 0 {
         return codes::UNDECIDED;
     }
-    let sort = nodes::sort(node);
-    if sort == nodes::TAIL_PARAM {
-        return codes::tail(param(env, node));
+    match leaf(traces, env, node) {
+        Some(number) => number,
+        None => eval(words, traces, table, env, depth, node),
     }
-    if sort == nodes::PARAM {
-        return param(env, node);
-    }
-    if sort == nodes::HEAD_PARAM {
-        return codes::head(traces, env, param(env, node));
-    }
-    eval(words, traces, table, env, depth, node)
 }
 
 // The branch that a condition's outcome chooses.
@@ -116,13 +127,23 @@ fn branch(
 ) -> u16
     ensures { result ≡ branch_at words.now traces.now table.now.now env.now depth node chosen }
 {
+    match branch_of(words, node, chosen) {
+        Some(next) => eval(words, traces, table, env, depth, next),
+        None => chosen,
+    }
+}
+
+// The node of the branch that a condition's outcome chooses; None for an outcome that is the if's too.
+pub fn branch_of(words: &[u64; WORDS], node: u64, chosen: u16) -> Option<u64>
+    ensures { result ≡ branch_word words.now node chosen }
+{
     if chosen == codes::TRUE {
-        return eval(words, traces, table, env, depth, nodes::second(words, node));
+        return Some(nodes::second(words, node));
     }
     if chosen == codes::FALSE {
-        return eval(words, traces, table, env, depth, nodes::third(words, node));
+        return Some(nodes::third(words, node));
     }
-    chosen
+    None
 }
 
 // A call: its arguments left to right, then what the table holds for the callee on them, as the number in its cell. A value
@@ -142,17 +163,14 @@ fn call(
     let count = nodes::count(node);
     let mut rest = nodes::places(node);
     let mut index: u64 = 0;
-    let mut i: u64 = 0;
-    while i < count {
+    for i in 0..count {
         let value = operand(words, traces, table, env, depth, nodes::at(words, rest));
         let kind = words[place + 1 + i as usize];
-        let digit = digit(kind, value);
-        if functions::values(kind) <= digit {
+        let Some(next) = passed(kind, index, value) else {
             return value;
-        }
-        index = next_index(index, functions::values(kind), digit);
-        rest = rest / 4096;
-        i += 1;
+        };
+        index = next;
+        rest /= 4096;
     }
     lookup(words[place], table, index)
 }
@@ -169,8 +187,15 @@ fn call_one(
 ) -> u16
     ensures { result ≡ call_one_at words.now traces.now table.now.now env.now depth node }
 {
-    let place = FUNCTIONS + STRIDE * nodes::callee(node);
     let value = operand(words, traces, table, env, depth, nodes::first(words, node));
+    call_with(words, table, node, value)
+}
+
+// What a call of one argument gives, by the argument's value: its digit is the configuration's number.
+pub fn call_with(words: &[u64; WORDS], table: &&[u16], node: u64, value: u16) -> u16
+    ensures { result ≡ call_with_at words.now table.now.now node value }
+{
+    let place = FUNCTIONS + STRIDE * nodes::callee(node);
     let kind = words[place + 1];
     let digit = digit(kind, value);
     if functions::values(kind) <= digit {
@@ -179,7 +204,8 @@ fn call_one(
     lookup(words[place], table, digit)
 }
 
-// As call, for arguments that are leaves: there is no recursion.
+// As call, for arguments that are leaves: there is no recursion. A function of both would take what differs, how an argument is
+// taken, as a closure, which would be in the cycle of calls of `call`: no plainer than the loop, whose turn is `passed`.
 pub fn call_leaves(
     words: &[u64; WORDS],
     traces: &[u8; codes::TRACES_BYTES],
@@ -193,37 +219,46 @@ pub fn call_leaves(
     let count = nodes::count(node);
     let mut places = nodes::places(node);
     let mut index: u64 = 0;
-    let mut i: u64 = 0;
-    while i < count {
-        let value = leaf(traces, env, nodes::at(words, places));
+    for i in 0..count {
+        let argument = nodes::at(words, places);
+        let value = leaf(traces, env, argument).unwrap_or(nodes::constant(argument));
         let range = words[place + 1 + i as usize];
-        let digit = digit(range, value);
-        if functions::values(range) <= digit {
+        let Some(next) = passed(range, index, value) else {
             return value;
-        }
-        index = next_index(index, functions::values(range), digit);
-        places = places / 4096;
-        i += 1;
+        };
+        index = next;
+        places /= 4096;
     }
     lookup(words[place], table, index)
 }
 
-// The number of the outcome of a leaf: tl of a parameter, a parameter, its hd or a constant. Other nodes are taken as
-// constants.
-fn leaf(traces: &[u8; codes::TRACES_BYTES], env: &[u16; 6], node: u64) -> u16
-    ensures { result ≡ leaf_by traces.now env.now node }
+// The number of the outcome of a leaf: tl of a parameter, a parameter, a constant or hd of a parameter. None for other nodes.
+#[tactic(auto, unfolding(crate::specs::leaf_by, decoding::specs::Words::is_leaf))]
+pub fn leaf(traces: &[u8; codes::TRACES_BYTES], env: &[u16; 6], node: u64) -> Option<u16>
+    ensures { result ≡ leaf_of traces.now env.now node }
 {
     let sort = nodes::sort(node);
     if sort == nodes::TAIL_PARAM {
-        return codes::tail(param(env, node));
+        return Some(codes::tail(param(env, node)));
     }
-    if sort == nodes::PARAM {
-        return param(env, node);
+    if sort < nodes::HEAD {
+        return Some(plain(env, node, sort));
     }
     if sort == nodes::HEAD_PARAM {
-        return codes::head(traces, env, param(env, node));
+        return Some(codes::head(traces, env, param(env, node)));
     }
-    nodes::constant(node)
+    None
+}
+
+// A parameter or a constant, by its sort.
+fn plain(env: &[u16; 6], node: u64, sort: u64) -> u16
+    ensures { result ≡ cond (eqb sort param_sort) (slice_index env.now (param_of node)) (constant_of node) }
+{
+    if sort == nodes::PARAM {
+        param(env, node)
+    } else {
+        nodes::constant(node)
+    }
 }
 
 // The working number of what a call gave, by the sort of its node.
@@ -244,11 +279,24 @@ pub fn param(env: &[u16; 6], node: u64) -> u16
     env[nodes::param(node)]
 }
 
+// The number of a configuration with an argument's digit more, by the word of its parameter; None for a value that is none of
+// the parameter's kind.
+fn passed(kind: u64, index: u64, value: u16) -> Option<u64>
+    ensures { result ≡ passed_by kind index value }
+{
+    let values = functions::values(kind);
+    let digit = digit(kind, value);
+    if values <= digit {
+        return None;
+    }
+    Some(next_index(index, values, digit))
+}
+
 // The place of a value among those of its kind; what is no value of it comes after them all.
 pub fn digit(kind: u64, value: u16) -> u64
     ensures { Digit kind value result }
 {
-    std::num::wrapping_sub_u64(value as u64, functions::lowest(kind))
+    u64::from(value).wrapping_sub(functions::lowest(kind))
 }
 
 // One digit more of a configuration's number. The numbers of a table that is lent stay far below 2 ^ 32, and
@@ -265,9 +313,8 @@ pub fn lookup(function: u64, table: &&[u16], index: u64) -> u16
     ensures { result ≡ lookup_by function table.now.now (index % most_index) }
 {
     let cell = (functions::first_cell(function) + index % 562949953421312) as usize;
-    let cells = *table;
-    if cells.len() <= cell {
-        return codes::UNDECIDED;
+    match table.get(cell) {
+        Some(&number) => functions::held(function, number),
+        None => codes::UNDECIDED,
     }
-    functions::held(function, cells[cell])
 }

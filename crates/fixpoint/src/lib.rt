@@ -25,13 +25,11 @@ pub fn run(
     ensures cells { table.new ≡ table_from (setup words.now functions.now traces.now) n starts.now count most_passes table.old }
     ensures passes { result ≡ passes_run (setup words.now functions.now traces.now) n starts.now count most_passes table.old }
 {
-    let mut done: u32 = 0;
-    while done < MOST_PASSES {
+    for done in 1..=MOST_PASSES {
         let stored = passes::pass(words, traces, functions, table, n, starts, count);
-        done += 1;
         if stored == 0 {
             return done;
         }
     }
-    done
+    MOST_PASSES
 }

@@ -23,7 +23,9 @@ use Rattle.semantics.specs.declared.Outcome.{Outcome}
 use Rattle.semantics.specs.declared.Outcome.TheVariants.{Truth, Suffix, Failed}
 use Rattle.semantics.specs.declared.Decision.{Decision}
 use Rattle.semantics.specs.declared.Decision.TheVariants.{Forever, Decided}
-use Rattle.semantics.specs.Language.{truth, Expr, Function, Program, Traces, Value, suffix, given, InKinds, whole_traces, only}
+use Rattle.semantics.specs.declared.Kind.TheVariants.{Truth as truth}
+use Rattle.semantics.specs.declared.Demand.TheVariants.{Only as only}
+use Rattle.semantics.specs.Language.{Expr, Function, Program, Traces, Value, suffix, given, InKinds, whole_traces}
 use Rattle.semantics.specs.Handed.{Handed, samples_of}
 use Rattle.semantics.specs.Numbering.{cells, most_cells}
 use Rattle.semantics.specs.Cells.{undecided_code, outcome_in, of_kind}
@@ -216,10 +218,10 @@ whole-values s t n ls = record {
     value Two (suc zero) v e = let is : suffix Guard (length t.of_guard) ≡ v = cc in rw (← is) (omega (arith, ls.guard))
     value Two (suc (suc i)) v e = let z : ◌≡◌ {A = ℕ} 0 1 = cc in absurd (omega arith)
 
-module _ {bytes : List ℕ} {h : Handed} {outline : Outline} {places : Cells} {lent : ℕ} (u : Settled bytes h outline places lent)
-    {words bytes_of : List ℕ} (w : words ≡ words_filled bytes outline.params places.functions outline.functions (lengths_of h) (replicate most_words 0))
+module _ {bytes : List ℕ} {h : Handed} {outline : Outline} {places : Cells} {lent : ℕ} (u : Settled bytes h outline places lent) {n : Lengths} (l : n ≡ lengths_of h)
+    {words bytes_of : List ℕ} (w : words ≡ words_filled bytes outline.params places.functions outline.functions n (replicate most_words 0))
     (z : bytes_of ≡ traces_of h.ram h.guard) {bodies : List ℕ} (b : BodiesUpto words outline.starts 32 bodies)
-    {first : List ℕ} (f : first ≡ whole_values (lengths_of h)) {ran : Ran}
+    {first : List ℕ} (f : first ≡ whole_values n) {ran : Ran}
     (e : ran ≡ run_from words bytes_of [] bodies places.total 0 first (get_or bodies 0 0)) where
   pub settled_calls : ran.calls ≤ most_cells
   settled_calls = rw e (omega (arith, calls-few words bytes_of [] bodies places.total 0 first (get_or bodies 0 0), u.total, u.fits))
@@ -231,9 +233,9 @@ module _ {bytes : List ℕ} {h : Handed} {outline : Outline} {places : Cells} {l
       let P = u.program in
       let t = samples_of h in
       let m = u.accepted.main in
-      let each : only_loops P ≡ true = rw (program_is u) at loops in
+      let each : only_loops P ≡ true = rw (program_is u l) at loops in
       let kinds : InKinds t m.0.params (whole_traces h.sort t) = rw m.2.params (whole_in h.sort t) in
-      let same = run_means P t (lengths_of h) bytes _ outline.starts (run_here u w z) (rw each tt) bodies b (cells t P) 0 0 m.0 m.1 m.2.result
-      (whole_traces h.sort t) kinds (whole_values (lengths_of h)) (whole-values h.sort t (lengths_of h) (lengths_are h.ram h.guard (lengths_of h))) refl in
-      let whole : ran ≡ run_from words bytes_of [] bodies (cells t P) 0 (whole_values (lengths_of h)) (get_or bodies 0 0) = rw (← f, ← u.total) e in
-      rw (program_is u) (same_followed _ (q ∙ ap (λ (x : Ran). main_decision x.outcome) whole ∙ same.0) (ap (λ (x : Ran). x.calls) whole ∙ same.1))
+      let same = run_means P t n bytes _ outline.starts (run_here u l w z) (rw each tt) bodies b (cells t P) 0 0 m.0 m.1 m.2.result
+      (whole_traces h.sort t) kinds (whole_values n) (whole-values h.sort t n (rw l (lengths_are h.ram h.guard (lengths_of h)))) refl in
+      let whole : ran ≡ run_from words bytes_of [] bodies (cells t P) 0 (whole_values n) (get_or bodies 0 0) = rw (← f, ← u.total) e in
+      rw (program_is u l) (same_followed _ (q ∙ ap (λ (x : Ran). main_decision x.outcome) whole ∙ same.0) (ap (λ (x : Ran). x.calls) whole ∙ same.1))

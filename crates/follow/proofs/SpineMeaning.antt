@@ -16,7 +16,11 @@ use Rattle.semantics.specs.declared.Error.{Error}
 use Rattle.semantics.specs.declared.Error.TheVariants.{Head, Tail}
 use Rattle.semantics.specs.declared.Outcome.{Outcome}
 use Rattle.semantics.specs.declared.Outcome.TheVariants.{Truth, Suffix, Failed}
-use Rattle.semantics.specs.Language.{Kind, truth, Op, hd, tl, null, Expr, constant, empty, param, op, ifte, call, Args, no_args, arg, Function, Program, Traces, Value, bit, suffix, given, InKinds, Demand, only, allows, Meets, MeetAll}
+use Rattle.semantics.specs.declared.Kind.{Kind}
+use Rattle.semantics.specs.declared.Kind.TheVariants.{Truth as truth}
+use Rattle.semantics.specs.declared.Demand.{Demand}
+use Rattle.semantics.specs.declared.Demand.TheVariants.{Only as only}
+use Rattle.semantics.specs.Language.{Op, hd, tl, null, Expr, constant, empty, param, op, ifte, call, Args, no_args, arg, Function, Program, Traces, Value, bit, suffix, given, InKinds, allows, Meets, MeetAll}
 use Rattle.semantics.specs.Rules.{Arguments, values, failed}
 use Rattle.semantics.specs.Cells.{undecided_code, true_code, false_code, suffix_code, outcome_in}
 use Rattle.semantics.specs.Bodies.{with_value, with_values, body_outcome, args_outcome}
@@ -25,7 +29,6 @@ use Rattle.semantics.proofs.Demands.{of_demand, demand_error}
 use Rattle.semantics.proofs.Bodies.{same_body}
 use Rattle.semantics.proofs.Visits.{lookup-kinds}
 use Rattle.syntax.specs.Limits.{most_params, most_body, most_depth}
-use Rattle.syntax.specs.Kinds.{kind_number}
 use Rattle.rule.specs.Form.{encode_expr, encode_args, depth, depth_all}
 use Rattle.rule.proofs.NodeBytes.{node_false, node_true, node_empty, node_empty_guard, node_if, node_op, node_param, node_call, op_node}
 use Rattle.rule.proofs.Expressions.{place-below}
@@ -197,8 +200,8 @@ module _ (P : Program) (t : Traces) (n : Lengths) (bytes W traces : List ℕ) (s
       let word = x.word ∙ called_by_lem P t n bytes W traces s [] Γ vs hs narrow env en (at + 1) x.ends x.later g f (at + 1) m.1 below few inside x.kept in
       let small = g % 32 + 32 * count in
       let leaves = leaves_in W count (places_of (placed x.ends call_sort small (at + 1))) in
-      let w = placed x.ends (call_sort_of (kind_number f.result) count leaves) small (at + 1) in
-      let kind = kind_number f.result in
+      let w = placed x.ends (call_sort_of f.result count leaves) small (at + 1) in
+      let kind = f.result in
       let slots = call_places W traces [] env x.ends g count (at + 1) below few kind leaves in
       let args = args_come (at + 1) x.ends x.right xs κs (at + 1) rest count (arg_places w) (places_of w) 0 env free m.3 (omega arith) (omega arith) (omega (arith, fits))
       (stand x.ends _ small (at + 1) (at + 1) count few inside) after (zero-add count) slots.0 (omega (arith, few)) in

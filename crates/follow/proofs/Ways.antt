@@ -1,43 +1,42 @@
 -- Laws of following over words, for each loop of the code its start, a turn, its end:
---   bodies_none, bodies_more                        the words of bodies
+--   mapped                                          the words of bodies
 --   spine_here, spine_on, spine_end                 the nodes along ifs
---   left-stop, left-put                             the arguments of a call
---   single_fails, single_put                        where there is one
---   first_fails, second_fails, third_fails,
---   fourth_fails, all-put                           where there are up to four
+--   Put, put_start, put_fails, put_more, put_end    the arguments of a call
 --   Following, following-start, following-plain,
 --   following-stop, following-more, following_end   the calls
 use Prim.Native.Nat.{ℕ, zero, suc, ◌+◌, ◌-◌, ◌/◌, ◌<◌, ◌≤◌}
-use native.Mathlib.Numerals.{sub-one}
 use native.Mathlib.Omega.{arith}
 use mathlib.Core.Path.{◌≡◌, refl, sym, ap, ◌∙◌}
-use mathlib.Core.Bool.{Bool, true, false}
+use mathlib.Core.Bool.{Bool, true, false, cond}
 use mathlib.Core.List.{List}
 use lib.Dec.{ltb, eqb}
-use lib.ListN.{get_or, set, replicate, length-replicate, length-set}
-use lib.Seq.{get_or-set_same, get_or-set_other}
+use Rattle.std.specs.Prelude.{Ok, Err}
+use lib.ListN.{length, get_or, set, length-set}
 use borrow.Author.Tests.{eq-eqb, ne_eqb, eqb-true, eqb-false, lt-ltb, le-ltb}
+use Rattle.std.specs.Array.{MapsFrom}
+use Rattle.std.specs.Fn.{Called}
+use denote.Param.Members.{Mut}
 use Rattle.semantics.specs.Cells.{undecided_code}
 use Rattle.decoding.specs.Words.{call_sort, sort_of, callee_of}
 use Rattle.decoding.specs.Decoding.{constant_by}
 use Rattle.syntax.specs.Limits.{most_depth}
 use Rattle.evaluator.specs.{eval_word}
-use Rattle.passes.specs.Mirror.{body_at}
 use Rattle.follow.specs.declared.run.Ran.{Ran}
-use Rattle.follow.specs.Mirror.{failing, is_if, condition_by, branch_word, spine_of, arg_by, arg_in, args_stop, args_put, args_left, args_stop_at, args_left_at, BodiesUpto, run_from}
+use Rattle.follow.specs.Mirror.{failing, is_if, condition_by, branch_word, spine_of, arg_by, arg_in, args_stop, args_put, args_left, args_stop_at, args_left_at, run_from, value_told, args_told}
 
 -- ---- Bodies
 
-pub bodies_none : (W starts : List ℕ) → BodiesUpto W starts 0 (replicate 32 0)
-bodies_none W starts = record { long = length-replicate {A = ℕ} 32 0; each = λ g l. absurd (omega arith) }
-
-pub bodies_more : {W starts bodies : List ℕ} {g : ℕ} → BodiesUpto W starts g bodies → g < 32 → {word : ℕ} → word ≡ body_at W (get_or starts g 0)
-    → BodiesUpto W starts (g + 1) (set bodies g word)
-bodies_more {W} {starts} {bodies} {g} u h {word} e = record { long = length-set bodies g word ∙ u.long; each = λ i l. go i l (eqb i g) refl }
-  where
-    go : (i : ℕ) → i < g + 1 → (b : Bool) → eqb i g ≡ b → get_or (set bodies g word) i 0 ≡ body_at W (get_or starts i 0)
-    go i l true q = let same = eqb-true i g q in rw same (get_or-set_same bodies g word 0 (rw u.long h) ∙ e)
-    go i l false q = let other = eqb-false i g q in get_or-set_other bodies g i word 0 other ∙ u.each i (omega (arith, other))
+-- calls of a closure that stays as it is, one for each element of an array
+module _ {F : Type 0} (g : Mut F (ℕ × Unit {0}) ℕ) (f : F) (h : ℕ → ℕ) (told : (x y : ℕ) (q : F) → Called g f (x, tt) y q → (q ≡ f) × (y ≡ h x)) where
+  pub mapped : (xs ys : List ℕ) (n i : ℕ) (p : F) → p ≡ f → MapsFrom g p xs ys i n → (k : ℕ) → i ≤ k → k < i + n → get_or ys k 0 ≡ h (get_or xs k 0)
+  mapped xs ys zero i p e m k l l' = absurd (omega arith)
+  mapped xs ys (suc n) i p e m k l l' =
+      let call = told m.1 m.2 m.0 (rw e at m.5) in
+      go (eqb k i) refl (m.4.1 0 ∙ call.1 ∙ ap h (sym (m.3.1 0))) (λ l''. mapped xs ys n (i + 1) m.0 call.0 m.6 k l'' (omega arith))
+    where
+      go : (b : Bool) → eqb k i ≡ b → get_or ys i 0 ≡ h (get_or xs i 0) → (i + 1 ≤ k → get_or ys k 0 ≡ h (get_or xs k 0)) → get_or ys k 0 ≡ h (get_or xs k 0)
+      go true q here later = let same = eqb-true k i q in rw same here
+      go false q here later = let other = eqb-false k i q in later (omega arith)
 
 -- ---- Along ifs
 
@@ -59,11 +58,10 @@ module _ (W traces T env : List ℕ) where
   spine_here zero w e h q n = absurd (omega arith)
   spine_here (suc left) w e h q n = simp (sym q ∙ n) at e
 
-  pub spine_on : (left w : ℕ) {z : ℕ} → spine left w ≡ z → 0 < left → {b : Bool} → b ≡ is_if (sort_of w) → b ≡ true → {c w' : ℕ} → c ≡ condition w
-      → w' ≡ branch_word W w c → spine (left - 1) w' ≡ z
+  pub spine_on : (left w next : ℕ) {z : ℕ} → spine left w ≡ z → left ≡ suc next → {b : Bool} → b ≡ is_if (sort_of w) → b ≡ true → {c w' : ℕ} → c ≡ condition w
+      → w' ≡ branch_word W w c → spine next w' ≡ z
   unfolding spine_of
-  spine_on zero w e h q y g p = absurd (omega arith)
-  spine_on (suc left) w e h q y g p = simp (sub-one, p, g) (simp (sym q ∙ y) at e)
+  spine_on left w next e h q y g p = simp (p, g) (simp (sym q ∙ y) at (rw h at e))
 
 -- ---- Arguments
 
@@ -80,89 +78,79 @@ pub left-put : (eval : ℕ → ℕ) (count k rest : ℕ) (env : List ℕ) → un
 unfolding args_left
 left-put eval count k rest env e = simp (eq-eqb _ _ (sym e))
 
--- one that fails, and one that does not
-stop_here : (eval : ℕ → ℕ) (count k i rest : ℕ) {v : ℕ} {b : Bool} → v ≡ arg_in eval count i rest → b ≡ failing v → b ≡ true → v ≡ args_stop eval count (suc k) i rest
-unfolding args_stop
-stop_here eval count k i rest g q y = g ∙ simp (ap failing (sym g) ∙ sym q ∙ y)
+-- what is told of an argument
+told-ok : {v : ℕ} (c : ℕ) → Ok v ≡ value_told c → (v ≡ c) × (failing c ≡ false)
+told-ok {v} c e = go (failing c) refl e
+  where
+    go : (b : Bool) → failing c ≡ b → Ok v ≡ cond b (Err c) (Ok c) → (v ≡ c) × (failing c ≡ false)
+    go true q e' = let clash : ◌≡◌ {A = ℕ} 0 1 = cc in absurd (omega arith)
+    go false q e' = (cc, q)
 
-stop_later : (eval : ℕ → ℕ) (count k i rest : ℕ) {v : ℕ} {b : Bool} → v ≡ arg_in eval count i rest → b ≡ failing v → b ≡ false
-    → args_stop eval count (suc k) i rest ≡ args_stop eval count k (i + 1) (rest / 4096)
-unfolding args_stop
-stop_later eval count k i rest g q n = simp (ap failing (sym g) ∙ sym q ∙ n)
+told-err : {v : ℕ} (c : ℕ) → Err v ≡ value_told c → (v ≡ c) × (failing c ≡ true)
+told-err {v} c e = go (failing c) refl e
+  where
+    go : (b : Bool) → failing c ≡ b → Err v ≡ cond b (Err c) (Ok c) → (v ≡ c) × (failing c ≡ true)
+    go true q e' = (cc, q)
+    go false q e' = let clash : ◌≡◌ {A = ℕ} 0 1 = cc in absurd (omega arith)
 
--- a single one
-module _ (eval : ℕ → ℕ) (rest : ℕ) (env : List ℕ) {r : ℕ} (p : r ≡ rest) {v : ℕ} (g : v ≡ arg_by eval true r) {b : Bool} (q : b ≡ failing v) where
-  single_is : v ≡ arg_in eval 1 0 rest
-  single_is = rw p at g
+module _ (eval : ℕ → ℕ) (count many rest₀ : ℕ) (env : List ℕ) where
+  -- the arguments before i have values, which are in an array
+  pub record Put (i rest : ℕ) (next : List ℕ) : Type 0 where
+    pub long : length next ≡ length env
+    pub stop : args_stop eval count many 0 rest₀ ≡ args_stop eval count (many - i) i rest
+    pub put : args_put eval count many 0 rest₀ env ≡ args_put eval count (many - i) i rest next
 
-  pub single_fails : b ≡ true → (v ≡ args_stop eval 1 1 0 rest) × (env ≡ args_left eval 1 1 rest env)
-  single_fails y =
-      let stop = stop_here eval 1 0 0 rest single_is q y in
-      (stop, left-stop eval 1 1 rest env (sym q ∙ y) stop)
+  pub put_start : Put 0 rest₀ env
+  put_start = let all : many - 0 ≡ many = omega arith in record { long = refl; stop = rw all; put = rw all }
 
-  pub single_put : b ≡ false → (undecided_code ≡ args_stop eval 1 1 0 rest) × (set env 0 v ≡ args_left eval 1 1 rest env)
-  unfolding args_stop args_put
-  single_put n =
-      let stop : undecided_code ≡ args_stop eval 1 1 0 rest = sym (stop_later eval 1 0 0 rest single_is q n) in
-      (stop, ap (set env 0) single_is ∙ left-put eval 1 1 rest env stop)
+  module _ {i rest : ℕ} {next : List ℕ} (u : Put i rest next) where
+    pub put_end : many ≤ i → (Ok tt ≡ args_told (args_stop eval count many 0 rest₀)) × (next ≡ args_left eval count many rest₀ env)
+    unfolding args_stop args_put
+    put_end h =
+        let none : many - i ≡ 0 = omega arith in
+        let stop : args_stop eval count many 0 rest₀ ≡ undecided_code = rw none at u.stop in
+        (rw stop, sym (rw none at u.put) ∙ left-put eval count many rest₀ env (sym stop))
 
--- up to four, one after the other
-module _ (eval : ℕ → ℕ) (count rest : ℕ) (env : List ℕ) {n r : ℕ} (e : n ≡ count) (p : r ≡ rest) where
-  abbrev whole-stop : ℕ
-  whole-stop = args_stop eval count 4 0 rest
+    module _ (h : i < many) {v : ℕ} (g : v ≡ arg_by eval (ltb i count) rest) where
+      more : many - i ≡ suc (many - (i + 1))
+      more = omega arith
 
-  -- what an error comes to
-  abbrev Stops : ℕ → Type 0
-  Stops v = (v ≡ whole-stop) × (env ≡ args_left eval count 4 rest env)
+      pub put_fails : {w : ℕ} → Err w ≡ value_told v → (Err w ≡ args_told (args_stop eval count many 0 rest₀)) × (env ≡ args_left eval count many rest₀ env)
+      unfolding args_stop
+      put_fails {w} e =
+          let t = told-err v e in
+          let fails : failing (arg_in eval count i rest) ≡ true = rw g at t.1 in
+          let stop : args_stop eval count many 0 rest₀ ≡ v = simp (more, fails) at u.stop ∙ sym g in
+          let some : eqb v undecided_code ≡ false = ne_eqb _ _ (λ z. failing-some v t.1 z) in
+          (rw (stop, some, t.0), left-stop eval count many rest₀ env t.1 (sym stop))
 
-  stops : {v : ℕ} {b : Bool} → b ≡ failing v → b ≡ true → v ≡ whole-stop → Stops v
-  stops q y stop = (stop, left-stop eval count 4 rest env (sym q ∙ y) stop)
-
-  module _ {v₁ : ℕ} (g₁ : v₁ ≡ arg_by eval (ltb 0 n) r) {b₁ : Bool} (q₁ : b₁ ≡ failing v₁) where
-    first_is : v₁ ≡ arg_in eval count 0 rest
-    first_is = rw (e, p) at g₁
-
-    pub first_fails : b₁ ≡ true → Stops v₁
-    first_fails y = stops q₁ y (stop_here eval count 3 0 rest first_is q₁ y)
-
-    module _ (ok₁ : b₁ ≡ false) {v₂ : ℕ} (g₂ : v₂ ≡ arg_by eval (ltb 1 n) (r / 4096)) {b₂ : Bool} (q₂ : b₂ ≡ failing v₂) where
-      second_is : v₂ ≡ arg_in eval count 1 (rest / 4096)
-      second_is = rw (e, p) at g₂
-
-      after_first : whole-stop ≡ args_stop eval count 3 1 (rest / 4096)
-      after_first = stop_later eval count 3 0 rest first_is q₁ ok₁
-
-      pub second_fails : b₂ ≡ true → Stops v₂
-      second_fails y = stops q₂ y (stop_here eval count 2 1 (rest / 4096) second_is q₂ y ∙ sym after_first)
-
-      module _ (ok₂ : b₂ ≡ false) {v₃ : ℕ} (g₃ : v₃ ≡ arg_by eval (ltb 2 n) (r / 4096 / 4096)) {b₃ : Bool} (q₃ : b₃ ≡ failing v₃) where
-        third_is : v₃ ≡ arg_in eval count 2 (rest / 4096 / 4096)
-        third_is = rw (e, p) at g₃
-
-        after_second : whole-stop ≡ args_stop eval count 2 2 (rest / 4096 / 4096)
-        after_second = after_first ∙ stop_later eval count 2 1 (rest / 4096) second_is q₂ ok₂
-
-        pub third_fails : b₃ ≡ true → Stops v₃
-        third_fails y = stops q₃ y (stop_here eval count 1 2 (rest / 4096 / 4096) third_is q₃ y ∙ sym after_second)
-
-        module _ (ok₃ : b₃ ≡ false) {v₄ : ℕ} (g₄ : v₄ ≡ arg_by eval (ltb 3 n) (r / 4096 / 4096 / 4096)) {b₄ : Bool} (q₄ : b₄ ≡ failing v₄) where
-          fourth_is : v₄ ≡ arg_in eval count 3 (rest / 4096 / 4096 / 4096)
-          fourth_is = rw (e, p) at g₄
-
-          after_third : whole-stop ≡ args_stop eval count 1 3 (rest / 4096 / 4096 / 4096)
-          after_third = after_second ∙ stop_later eval count 1 2 (rest / 4096 / 4096) third_is q₃ ok₃
-
-          pub fourth_fails : b₄ ≡ true → Stops v₄
-          fourth_fails y = stops q₄ y (stop_here eval count 0 3 (rest / 4096 / 4096 / 4096) fourth_is q₄ y ∙ sym after_third)
-
-          pub all-put : b₄ ≡ false → (undecided_code ≡ whole-stop) × (set (set (set (set env 0 v₁) 1 v₂) 2 v₃) 3 v₄ ≡ args_left eval count 4 rest env)
-          unfolding args_stop args_put
-          all-put ok₄ =
-              let stop : undecided_code ≡ whole-stop =
-              sym (after_third ∙ stop_later eval count 0 3 (rest / 4096 / 4096 / 4096) fourth_is q₄ ok₄) in
-              (stop, rw (first_is, second_is, third_is, fourth_is) (left-put eval count 4 rest env stop))
+      pub put_more : {w : ℕ} → Ok w ≡ value_told v → Put (i + 1) (rest / 4096) (set next i w)
+      unfolding args_stop args_put
+      put_more {w} e =
+          let t = told-ok v e in
+          let fine : failing (arg_in eval count i rest) ≡ false = rw g at t.1 in
+          record {
+            long = length-set next i w ∙ u.long;
+            stop = simp (more, fine) at u.stop;
+            put = rw (t.0, g) (rw more at u.put);
+          }
 
 -- ---- Calls
+
+-- what is told of all arguments
+args-ok : {o : Unit {0}} (c : ℕ) → Ok o ≡ args_told c → eqb c undecided_code ≡ true
+args-ok {o} c e = go (eqb c undecided_code) refl e
+  where
+    go : (b : Bool) → eqb c undecided_code ≡ b → Ok o ≡ cond b (Ok (tt {0})) (Err c) → eqb c undecided_code ≡ true
+    go true q e' = q
+    go false q e' = let clash : ◌≡◌ {A = ℕ} 0 1 = cc in absurd (omega arith)
+
+args-err : {v : ℕ} (c : ℕ) → Err v ≡ args_told c → (v ≡ c) × (eqb c undecided_code ≡ false)
+args-err {v} c e = go (eqb c undecided_code) refl e
+  where
+    go : (b : Bool) → eqb c undecided_code ≡ b → Err v ≡ cond b (Ok (tt {0})) (Err c) → (v ≡ c) × (eqb c undecided_code ≡ false)
+    go true q e' = let clash : ◌≡◌ {A = ℕ} 0 1 = cc in absurd (omega arith)
+    go false q e' = (cc, q)
 
 module _ (W traces T bodies : List ℕ) (most : ℕ) (env₀ : List ℕ) (body₀ : ℕ) where
   abbrev whole : Ran
@@ -177,9 +165,12 @@ module _ (W traces T bodies : List ℕ) (most : ℕ) (env₀ : List ℕ) (body�
   following-start = let all : most - 0 ≡ most = omega arith in record { few = omega arith; same = rw all }
 
   module _ {env : List ℕ} {body calls : ℕ} (u : Following env body calls) where
-    pub following_end : most ≤ calls → record { outcome = undecided_code; calls = calls } ≡ whole
+    pub following_end : most ≤ calls → record { outcome = undecided_code; calls = most } ≡ whole
     unfolding run_from
-    following_end h = let none : most - calls ≡ 0 = omega arith in rw none at u.same
+    following_end h =
+        let none : most - calls ≡ 0 = omega arith in
+        let all : calls ≡ most = omega (arith, u.few) in
+        rw all at (rw none at u.same)
 
     module _ (h : calls < most) {node : ℕ} (reached : node ≡ spine_of W traces T env most_depth body) {sort : ℕ} (sorted : sort ≡ sort_of node) where
       fuel_left : most - calls ≡ suc (most - (calls + 1))
@@ -192,19 +183,19 @@ module _ (W traces T bodies : List ℕ) (most : ℕ) (env₀ : List ℕ) (body�
           let plain : ltb (sort_of node) call_sort ≡ true = lt-ltb (sort_of node) call_sort (rw sorted at low) in
           ap (λ (c : ℕ). record { outcome = c; calls = calls }) e ∙ (simp (fuel_left, ← reached, plain) at u.same)
 
-      module _ (high : call_sort ≤ sort) {error : ℕ} (stop : error ≡ args_stop_at W traces T env node) where
+      module _ (high : call_sort ≤ sort) where
         call : ltb (sort_of node) call_sort ≡ false
         call = le-ltb (sort_of node) call_sort (rw sorted at high)
 
-        pub following-stop : (error ≡ undecided_code → ⊥) → record { outcome = error; calls = calls } ≡ whole
+        pub following-stop : {error : ℕ} → Err error ≡ args_told (args_stop_at W traces T env node) → record { outcome = error; calls = calls } ≡ whole
         unfolding run_from
-        following-stop k =
-            let some : eqb (args_stop_at W traces T env node) undecided_code ≡ false = ne_eqb _ _ (λ z. k (stop ∙ z)) in
-            ap (λ (c : ℕ). record { outcome = c; calls = calls }) stop ∙ (simp (fuel_left, ← reached, call, some) at u.same)
+        following-stop stop =
+            let told = args-err (args_stop_at W traces T env node) stop in
+            ap (λ (c : ℕ). record { outcome = c; calls = calls }) told.0 ∙ (simp (fuel_left, ← reached, call, told.1) at u.same)
 
-        pub following-more : error ≡ undecided_code → {env' : List ℕ} {body' : ℕ} → env' ≡ args_left_at W traces T env node → body' ≡ get_or bodies (callee_of node) 0
+        pub following-more : {o : Unit {0}} → Ok o ≡ args_told (args_stop_at W traces T env node) → {env' : List ℕ} {body' : ℕ} → env' ≡ args_left_at W traces T env node → body' ≡ get_or bodies (callee_of node) 0
             → Following env' body' (calls + 1)
         unfolding run_from
-        following-more z e b =
-            let none : eqb (args_stop_at W traces T env node) undecided_code ≡ true = eq-eqb _ _ (sym stop ∙ z) in
+        following-more stop e b =
+            let none = args-ok (args_stop_at W traces T env node) stop in
             record { few = omega arith; same = rw (e, b) (simp (fuel_left, ← reached, call, none) at u.same) }

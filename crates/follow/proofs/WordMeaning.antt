@@ -16,8 +16,9 @@ use mathlib.Core.List.{List}
 use lib.Dec.{ltb, eqb}
 use lib.ListN.{get_or}
 use borrow.Author.Tests.{lt-ltb, le-ltb, eqb-true}
+use Rattle.semantics.specs.Language.{is_guard}
+use Rattle.semantics.specs.declared.Kind.{Kind}
 use Rattle.syntax.specs.Limits.{most_depth}
-use Rattle.syntax.specs.Kinds.{guard_kind}
 use Rattle.codes.specs.{head_of, null_of}
 use Rattle.decoding.specs.Words.{constant_sort, param_sort, head_param_sort, null_param_sort, if_sort, if_param_sort, if_null_sort, if_head_sort, call_sort, call_one_sort, call_guard_sort, call_leaves_sort, packed, sort_of, param_of, callee_of, count_of, places_of, second_place, third_place}
 use Rattle.decoding.specs.Decoding.{end_at, constant_by, unary_by, conditional_by, placed, call_sort_of}
@@ -145,7 +146,7 @@ module _ (W traces T env : List ℕ) where
 
   -- ---- A call
 
-  module _ (ends : List ℕ) (g count first : ℕ) (below : g < 32) (few : count ≤ 4) (kind : ℕ) (leaves : Bool) where
+  module _ (ends : List ℕ) (g count first : ℕ) (below : g < 32) (few : count ≤ 4) (kind : Kind) (leaves : Bool) where
     abbrev small : ℕ
     small = g % 32 + 32 * count
 
@@ -153,7 +154,7 @@ module _ (W traces T env : List ℕ) where
     called = placed ends (call_sort_of kind count leaves) small first
 
     sort_of_lem : (call_sort ≤ call_sort_of kind count leaves) × (call_sort_of kind count leaves < 16) × (eqb (call_sort_of kind count leaves) call_one_sort ≡ true → eqb count 1 ≡ true)
-    sort_of_lem = call-sort (eqb kind guard_kind) (eqb count 1) leaves
+    sort_of_lem = call-sort (is_guard kind) (eqb count 1) leaves
 
     call_sorted : sort_of called ≡ call_sort_of kind count leaves
     call_sorted =

@@ -1,19 +1,18 @@
 -- A mirror of the code: calls followed over the words of a program, outcomes as their numbers. No reader need believe it: proofs/ shows
 -- that it comes to what the rules say.
-use Rattle.std.specs.Prelude.{ℕ, zero, suc, ◌+◌, ◌/◌, ◌%◌, ◌<◌, ◌≡◌, Bool, true, false, cond, List, [], ◌∷◌, ltb, eqb, length, get_or, set}
+use Rattle.std.specs.Prelude.{ℕ, zero, suc, ◌+◌, ◌/◌, ◌%◌, ◌<◌, ◌≡◌, Bool, true, false, cond, List, [], ◌∷◌, ltb, eqb, length, get_or, set, Result, Ok, Err}
 use Rattle.refusal.specs.declared.Refusal.TheVariants.{CallElsewhere}
-use Rattle.refusal.specs.declared.Check.{Check}
-use Rattle.refusal.specs.declared.Check.TheVariants as check
+use Rattle.refusal.specs.{Check}
+use Rattle.rule.specs.declared.Outline.{Outline}
+use Rattle.loops.specs.{loops_by}
 use Rattle.semantics.specs.Cells.{undecided_code, false_code, true_code, head_code, tail_code, suffix_code}
 use Rattle.syntax.specs.Limits.{most_depth}
-use Rattle.rule.specs.declared.Outline.{Outline}
 use Rattle.codes.specs.declared.Lengths.{Lengths}
 use Rattle.codes.specs.{head_of, null_of, guard_code, ram_offset, guard_offset}
 use Rattle.decoding.specs.Words.{if_sort, if_param_sort, if_null_sort, if_head_sort, call_sort, call_one_sort, sort_of, callee_of, count_of, places_of, first_place, second_place, third_place}
 use Rattle.decoding.specs.Decoding.{constant_by}
 use Rattle.evaluator.specs.{param_in, eval_word, eval_at}
 use Rattle.passes.specs.Mirror.{body_at}
-use Rattle.loops.specs.{loops_by}
 use Rattle.follow.specs.declared.run.Ran.{Ran}
 
 -- ---- Nodes
@@ -21,6 +20,14 @@ use Rattle.follow.specs.declared.run.Ran.{Ran}
 -- a number that is that of an error
 abbrev pub failing : ℕ → Bool
 failing c = cond (eqb c head_code) true (eqb c tail_code)
+
+-- what a number tells: a value, or the number of an error
+abbrev pub value_told : ℕ → Result ℕ ℕ
+value_told c = cond (failing c) (Err c) (Ok c)
+
+-- the same of all arguments of a call, whose values are elsewhere
+abbrev pub args_told : ℕ → Result (Unit {0}) ℕ
+args_told c = cond (eqb c undecided_code) (Ok tt) (Err c)
 
 abbrev pub is_if : ℕ → Bool
 is_if sort = cond (ltb sort if_sort) false (ltb sort call_sort)
@@ -107,5 +114,4 @@ whole_values n = (n.ram + suffix_code) ∷ (n.guard + guard_code) ∷ 0 ∷ 0 �
 
 -- the check of following, by that of an evaluation with room for all cells that there can be
 unfoldable pub check_by : List ℕ → Check → Outline → Check
-check_by bytes c outline =
-    cond (eqb outline.functions 0) c (cond (loops_by bytes outline) c (check.Refused CallElsewhere))
+check_by bytes c outline = cond (eqb outline.functions 0) c (cond (loops_by bytes outline) c (Err CallElsewhere))

@@ -1,11 +1,10 @@
 // What following a settled program that only loops comes to.
-ghost use Rattle.std.specs.Prelude.{◌≡◌, true, ◌≤◌};
-ghost use Rattle.trace.specs.{most_samples};
-ghost use Rattle.semantics.specs.Handed.{handed, samples_of};
+ghost use Rattle.std.specs.Prelude.{◌≡◌, true};
+ghost use Rattle.semantics.specs.Handed.{samples_of};
 ghost use Rattle.semantics.specs.Numbering.{most_cells};
 ghost use Rattle.rule.specs.Reading.{program_of};
 ghost use Rattle.codes.specs.{Short};
-ghost use Rattle.prepare.specs.Settled.{Settled};
+ghost use Rattle.prepare.specs.Settled.{IsSettled, handed_in};
 ghost use Rattle.chains.specs.Loops.{only_loops};
 ghost use Rattle.chains.specs.Following.{followed};
 ghost use Rattle.follow.specs.Mirror.{whole_values};
@@ -14,41 +13,23 @@ use crate::run;
 use chains::Followed;
 use codes::Lengths;
 use decoding::functions::WORDS;
-use passes::setup;
-use passes::setup::Cells;
-use rule::Outline;
-use semantics::Sort;
+use prepare::Prepared;
 
 // The decision of a settled program of a sort that only loops, and the calls made.
-pub fn decide(
-    program: &[u8],
-    sort: Sort,
-    ram: &[u8],
-    guard: &[u8],
-    n: Lengths,
-    outline: Outline,
-    places: Cells,
-) -> Followed
-    requires { Settled program.now (handed sort ram.now n.ram guard.now n.guard) outline places most_cells × (only_loops (program_of program.now) ≡ true) }
-    ensures { result ≡ followed sort (program_of program.now) (samples_of (handed sort ram.now n.ram guard.now n.guard)) }
+pub fn decide(ready: &Prepared) -> Followed
+    requires { IsSettled ready.now most_cells × (only_loops (program_of ready.now.program.now) ≡ true) }
+    ensures { result ≡ followed ready.now.handed.sort (program_of ready.now.program.now) (samples_of (handed_in ready.now.handed)) }
 {
     let mut words = [0u64; WORDS];
-    decoding::program::fill(
-        program,
-        &outline.params,
-        &places.functions,
-        outline.functions,
-        n,
-        &mut words,
-    );
-    let bodies = run::bodies_of(&words, &outline.starts);
+    ready.fill(&mut words);
+    let bodies = run::bodies_of(&words, &ready.outline.starts);
     let ran = run::run(
         &words,
-        &setup::traces_of(ram, guard),
+        &ready.traces(),
         &[],
         &bodies,
-        whole_values(n),
-        places.total,
+        whole_values(ready.lengths),
+        ready.cells.total,
     );
     Followed {
         decision: semantics::main_decision(ran.outcome),
@@ -70,15 +51,4 @@ fn whole_values(n: Lengths) -> [u16; 6]
         n.ram + codes::RAM_OFFSET,
         n.guard + codes::GUARD_OFFSET,
     ]
-}
-
-// The lengths of traces that 20 leaves.
-pub fn lengths(n: usize, m: usize) -> Lengths
-    requires { (n ≤ most_samples) × (m ≤ most_samples) }
-    ensures { (result.ram ≡ n) × (result.guard ≡ m) }
-{
-    Lengths {
-        ram: n as u16,
-        guard: m as u16,
-    }
 }

@@ -1,15 +1,16 @@
 // Calls followed in a loop, over the words of a program: no table is filled, and no call is kept.
-ghost use Rattle.std.specs.Prelude.{◌≡◌, get_or};
-ghost use Rattle.follow.specs.Mirror.{failing, is_if, condition_by, branch_word, spine_of, arg_by, args_stop, args_left, args_stop_at, args_left_at, BodiesUpto, run_from};
-ghost use Rattle.decoding.specs.Words.{count_of, places_of};
+ghost use Rattle.std.specs.Prelude.{◌≡◌, ◌≤◌, get_or};
+ghost use Rattle.follow.specs.Mirror.{value_told, args_told, is_if, condition_by, branch_word, spine_of, arg_by, args_stop, args_left, args_stop_at, args_left_at, BodiesUpto, run_from};
+ghost use Rattle.decoding.specs.Words.{places_of};
 ghost use Rattle.evaluator.specs.{eval_at};
-ghost use Rattle.syntax.specs.Limits.{most_depth};
+ghost use Rattle.syntax.specs.Limits.{most_depth, most_params};
 
 use decoding::functions::WORDS;
 use decoding::nodes;
 use evaluator::{eval, operand, param};
 
-// What following comes to: the working number of the outcome, undecided where all calls were made, and how many were.
+// What following comes to: the working number of the outcome, undecided where all calls were made, and how many were. An Option
+// would be no plainer: `main_decision` takes this very number, in which undecided is 'forever'.
 #[derive(Clone, Copy)]
 pub struct Ran {
     pub outcome: u16,
@@ -20,15 +21,11 @@ pub struct Ran {
 pub fn bodies_of(words: &[u64; WORDS], starts: &[u16; 32]) -> [u64; 32]
     ensures { BodiesUpto words.now starts.now 32 result }
 {
-    let mut bodies = [0u64; 32];
-    let mut g: usize = 0;
-    while g < 32 {
-        bodies[g] = passes::body_of(words, starts[g]);
-        g += 1;
-    }
-    bodies
+    starts.map(|start| passes::body_of(words, start))
 }
 
+// `words`, `traces` and `none` come one by one here and below, since `eval` and `operand` take each by itself: a struct of them would be
+// no plainer, as it would be taken apart at each call.
 // Follows the calls from function 0 on given values, until it ends or so many calls were made. `bodies` has the words of the bodies.
 // `none` is what calls outside of loops would be looked up in: no cells.
 pub fn run(
@@ -43,24 +40,20 @@ pub fn run(
 {
     let mut env = first;
     let mut body = bodies[0];
-    let mut calls: u64 = 0;
-    while calls < most {
+    for calls in 0..most {
         let node = spine(words, traces, &none, &env, body);
         if nodes::sort(node) < nodes::CALL {
             let outcome = eval(words, traces, &none, &env, syntax::MOST_DEPTH, node);
             return Ran { outcome, calls };
         }
-        let made = calls + 1;
-        let outcome = arguments(words, traces, &none, &mut env, node);
-        if outcome != codes::UNDECIDED {
+        if let Err(outcome) = arguments(words, traces, &none, &mut env, node) {
             return Ran { calls, outcome };
         }
         body = bodies[nodes::callee(node)];
-        calls = made;
     }
     Ran {
         outcome: codes::UNDECIDED,
-        calls,
+        calls: most,
     }
 }
 
@@ -75,41 +68,36 @@ fn spine(
     ensures { result ≡ spine_of words.now traces.now none.now.now env.now most_depth body }
 {
     let mut node = body;
-    let mut left = syntax::MOST_DEPTH;
-    while 0 < left {
+    for _ in 0..syntax::MOST_DEPTH {
         if !is_if(nodes::sort(node)) {
             return node;
         }
         node = branch(words, node, condition(words, traces, none, env, node));
-        left -= 1;
     }
     decoding::program::constant(codes::UNDECIDED)
 }
 
 // The node of the branch that a condition's outcome chooses; a constant with its number where it chooses none.
+#[tactic(auto, unfolding(crate::specs::Mirror::branch_word))]
 fn branch(words: &[u64; WORDS], node: u64, chosen: u16) -> u64
     ensures { result ≡ branch_word words.now node chosen }
 {
-    if chosen == codes::TRUE {
-        return nodes::second(words, node);
+    match chosen {
+        codes::TRUE => nodes::second(words, node),
+        codes::FALSE => nodes::third(words, node),
+        _ => decoding::program::constant(chosen),
     }
-    if chosen == codes::FALSE {
-        return nodes::third(words, node);
-    }
-    decoding::program::constant(chosen)
 }
 
 // Whether a sort is that of an if.
 fn is_if(sort: u64) -> bool
     ensures { result ≡ is_if sort }
 {
-    if sort < nodes::IF {
-        return false;
-    }
-    sort < nodes::CALL
+    nodes::IF <= sort && sort < nodes::CALL
 }
 
 // What the condition of an if gives: beside it, or where it stands.
+#[tactic(auto, unfolding(crate::specs::Mirror::condition_by))]
 fn condition(
     words: &[u64; WORDS],
     traces: &[u8; codes::TRACES_BYTES],
@@ -119,103 +107,64 @@ fn condition(
 ) -> u16
     ensures { result ≡ condition_by words.now traces.now none.now.now env.now node }
 {
-    let sort = nodes::sort(node);
-    if sort == nodes::IF_NULL {
-        return codes::null(param(env, node));
+    match nodes::sort(node) {
+        nodes::IF_NULL => codes::null(param(env, node)),
+        nodes::IF_HEAD => codes::head(traces, env, param(env, node)),
+        nodes::IF_PARAM => param(env, node),
+        _ => eval(
+            words,
+            traces,
+            none,
+            env,
+            syntax::MOST_DEPTH,
+            nodes::first(words, node),
+        ),
     }
-    if sort == nodes::IF_HEAD {
-        return codes::head(traces, env, param(env, node));
-    }
-    if sort == nodes::IF_PARAM {
-        return param(env, node);
-    }
-    eval(
-        words,
-        traces,
-        none,
-        env,
-        syntax::MOST_DEPTH,
-        nodes::first(words, node),
-    )
 }
 
-// The arguments of a call: the number of the first error, left to right, which leaves `env` as it was; or undecided, with their values in
-// `env`.
+// The arguments of a call: their values in `env`; or the number of the first error, left to right, which leaves `env` as it was.
+#[tactic(auto, unfolding(crate::specs::Mirror::args_stop_at, crate::specs::Mirror::args_left_at))]
 fn arguments(
     words: &[u64; WORDS],
     traces: &[u8; codes::TRACES_BYTES],
     none: &&[u16],
     env: &mut [u16; 6],
     node: u64,
-) -> u16
-    ensures stop { result ≡ args_stop_at words.now traces.now none.now.now env.old node }
+) -> Result<(), u16>
+    ensures stop { result ≡ args_told (args_stop_at words.now traces.now none.now.now env.old node) }
     ensures env { env.new ≡ args_left_at words.now traces.now none.now.now env.old node }
 {
     if nodes::sort(node) == nodes::CALL_ONE {
-        return single(words, traces, none, env, node);
+        return put::<1>(words, traces, none, env, 1, node);
     }
-    several(words, traces, none, env, node)
+    put::<4>(words, traces, none, env, nodes::count(node) as usize, node)
 }
 
-// Where there is one.
-fn single(
+// So many arguments of a call that has places for `PLACES`. All have values before one is put in.
+fn put<const PLACES: usize>(
     words: &[u64; WORDS],
     traces: &[u8; codes::TRACES_BYTES],
     none: &&[u16],
     env: &mut [u16; 6],
+    count: usize,
     node: u64,
-) -> u16
-    ensures stop { result ≡ args_stop (eval_at words.now traces.now none.now.now env.old most_depth) 1 1 0 (places_of node) }
-    ensures env { env.new ≡ args_left (eval_at words.now traces.now none.now.now env.old most_depth) 1 1 (places_of node) env.old }
+) -> Result<(), u16>
+    requires { PLACES ≤ most_params }
+    ensures stop { result ≡ args_told (args_stop (eval_at words.now traces.now none.now.now env.old most_depth) count PLACES 0 (places_of node)) }
+    ensures env { env.new ≡ args_left (eval_at words.now traces.now none.now.now env.old most_depth) count PLACES (places_of node) env.old }
 {
-    let value = argument(words, traces, none, env, true, nodes::places(node));
-    if failed(value) {
-        return value;
+    let mut next = *env;
+    let mut places = nodes::places(node);
+    for i in 0..PLACES {
+        next[i] = value(argument(words, traces, none, env, i < count, places))?;
+        places /= 4096;
     }
-    env[0] = value;
-    codes::UNDECIDED
-}
-
-// Where there are up to four. All have values before one is put in.
-fn several(
-    words: &[u64; WORDS],
-    traces: &[u8; codes::TRACES_BYTES],
-    none: &&[u16],
-    env: &mut [u16; 6],
-    node: u64,
-) -> u16
-    ensures stop { result ≡ args_stop (eval_at words.now traces.now none.now.now env.old most_depth) (count_of node) 4 0 (places_of node) }
-    ensures env { env.new ≡ args_left (eval_at words.now traces.now none.now.now env.old most_depth) (count_of node) 4 (places_of node) env.old }
-{
-    let count = nodes::count(node);
-    let places = nodes::places(node);
-    let after = places / 4096;
-    let later = after / 4096;
-    let last = later / 4096;
-    let first = argument(words, traces, none, env, 0 < count, places);
-    if failed(first) {
-        return first;
-    }
-    let second = argument(words, traces, none, env, 1 < count, after);
-    if failed(second) {
-        return second;
-    }
-    let third = argument(words, traces, none, env, 2 < count, later);
-    if failed(third) {
-        return third;
-    }
-    let fourth = argument(words, traces, none, env, 3 < count, last);
-    if failed(fourth) {
-        return fourth;
-    }
-    env[0] = first;
-    env[1] = second;
-    env[2] = third;
-    env[3] = fourth;
-    codes::UNDECIDED
+    *env = next;
+    Ok(())
 }
 
 // The argument at the first of some places, if there is one.
+#[tactic(auto, unfolding(crate::specs::Mirror::arg_by))]
 fn argument(
     words: &[u64; WORDS],
     traces: &[u8; codes::TRACES_BYTES],
@@ -240,12 +189,13 @@ fn argument(
     }
 }
 
-// Whether a number is that of an error.
-fn failed(number: u16) -> bool
-    ensures { result ≡ failing number }
+// The value that a number stands for by itself, or the number of an error.
+fn value(number: u16) -> Result<u16, u16>
+    ensures { result ≡ value_told number }
 {
-    if number == codes::HEAD {
-        return true;
+    if number == codes::HEAD || number == codes::TAIL {
+        Err(number)
+    } else {
+        Ok(number)
     }
-    number == codes::TAIL
 }

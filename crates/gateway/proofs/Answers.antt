@@ -10,6 +10,7 @@ use mathlib.Core.Bool.{Bool, true, false}
 use mathlib.Core.List.{List, [], ◌∷◌}
 use Prim.Native.Nat.{ℕ}
 use lib.ListN.{length, get_or}
+use Rattle.std.specs.Prelude.{Result, Ok}
 use Rattle.refusal.specs.declared.Refusal.{Refusal}
 use Rattle.refusal.specs.{number_of, Answer, answered, values_left}
 use Rattle.refusal.proofs.Numbers.{refused-left}
@@ -17,16 +18,12 @@ use Rattle.trace.specs.{digit}
 use Rattle.semantics.specs.declared.Verdict.{Verdict}
 use Rattle.semantics.specs.Handed.{Handed}
 use Rattle.semantics.specs.Verdicts.{verdict_number, verdict_values}
-use Rattle.evaluate.specs.declared.Evaluated.{Evaluated}
-use Rattle.evaluate.specs.declared.Evaluated.TheVariants as evaluated
 use Rattle.evaluate.specs.Evaluate.{evaluation, evaluated_answer, table_evaluated, Demand3}
 use Rattle.chains.specs.Following.{followed_values}
-use Rattle.follow.specs.declared.Following.{Following}
-use Rattle.follow.specs.declared.Following.TheVariants as following
+use Rattle.chains.specs.declared.Followed.{Followed}
 use Rattle.follow.specs.Follow.{following_of, following_answer, FollowDemand, AsTable, ToldDecision}
 use Rattle.record.specs.declared.Written.{Written}
-use Rattle.record.specs.declared.Written.TheVariants as written
-use Rattle.record.specs.Recording.{record_of, writing, written_answer, output_written, table_written, RecordDemand3}
+use Rattle.record.specs.Recording.{record_of, written, writing, written_answer, output_written, table_written, RecordDemand3}
 use Rattle.layout.specs.Trailer.{contents_in}
 use Rattle.record.specs.Checking.{agrees, compared, checked_answer, compared_in}
 use Rattle.gateway.specs.{first_alone, agreement_values}
@@ -52,9 +49,9 @@ told_as numbers old n l e = (n ∙ ap (λ x. (numbers x).number) e, l ∙ ap (λ
 
 -- the clauses of evaluating and of recording, of the answer in numbers
 module _ (program : List ℕ) (h : Handed) (T T' : List ℕ) {number : ℕ} {left : List ℕ} (old : List ℕ) where
-  pub evaluated_told : {r : Evaluated} → number ≡ (evaluated_answer r).number → left ≡ values_left (evaluated_answer r) old
+  pub evaluated_told : {r : Result Verdict Refusal} → number ≡ (evaluated_answer r).number → left ≡ values_left (evaluated_answer r) old
       → r ≡ evaluation program h (length T) → T' ≡ table_evaluated program h T
-      → Demand3 program h (length T) (λ v. r ≡ evaluated.Verdict v) T'
+      → Demand3 program h (length T) (λ v. r ≡ Ok v) T'
       → (number ≡ (evaluated_answer (evaluation program h (length T))).number)
       × ((T' ≡ table_evaluated program h T)
       × ((left ≡ values_left (evaluated_answer (evaluation program h (length T))) old)
@@ -64,9 +61,9 @@ module _ (program : List ℕ) (h : Handed) (T T' : List ℕ) {number : ℕ} {lef
       let all = told_as evaluated_answer old n l answer in
       (all.0, (cells, (all.1, λ P a f t. let d = decides P a f t in (d.0, told_as evaluated_answer old n l d.1, d.2))))
 
-  pub written_told : {r : Written} (out out' : List ℕ) → number ≡ (written_answer r).number → left ≡ values_left (written_answer r) old
+  pub written_told : {r : Result Written Refusal} (out out' : List ℕ) → number ≡ (written_answer r).number → left ≡ values_left (written_answer r) old
       → r ≡ writing program h (length T) (length out) → out' ≡ output_written program h (length T) out → T' ≡ table_written program h T (length out)
-      → RecordDemand3 program h (length T) (length out) (λ v. r ≡ written.Record (length (record_of program h)) v) T'
+      → RecordDemand3 program h (length T) (length out) (λ v. r ≡ written (length (record_of program h)) v) T'
       → (number ≡ (written_answer (writing program h (length T) (length out))).number)
       × ((out' ≡ output_written program h (length T) out)
       × ((T' ≡ table_written program h T (length out))
@@ -80,8 +77,8 @@ module _ (program : List ℕ) (h : Handed) (T T' : List ℕ) {number : ℕ} {lef
       )
 
 -- the clauses of following
-pub followed-told : (program : List ℕ) (h : Handed) {r : Following} {number : ℕ} {left : List ℕ} (old : List ℕ) → number ≡ (following_answer r).number
-    → left ≡ values_left (following_answer r) old → r ≡ following_of program h → FollowDemand program h (λ q. r ≡ following.Ended q)
+pub followed-told : (program : List ℕ) (h : Handed) {r : Result Followed Refusal} {number : ℕ} {left : List ℕ} (old : List ℕ) → number ≡ (following_answer r).number
+    → left ≡ values_left (following_answer r) old → r ≡ following_of program h → FollowDemand program h (λ q. r ≡ Ok q)
     → AsTable program h (ToldDecision r)
     → (number ≡ (following_answer (following_of program h)).number)
     × ((left ≡ values_left (following_answer (following_of program h)) old)
@@ -105,6 +102,6 @@ pub compared-told : (bytes : List ℕ) (v : Verdict) (old : List ℕ)
 unfolding values_left
 compared-told bytes v old = go (agrees (contents_in bytes).verdict (contents_in bytes).passes v)
   where
-    go : (b : Bool) → ((checked_answer (compared b v)).number ≡ 0) × (values_left (first_alone (checked_answer (compared b v))) old ≡ digit b ∷ [])
+    go : (b : Bool) → ((checked_answer (Ok (compared b v))).number ≡ 0) × (values_left (first_alone (checked_answer (Ok (compared b v)))) old ≡ digit b ∷ [])
     go true = (refl, refl)
     go false = (refl, refl)

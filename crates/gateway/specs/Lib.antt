@@ -1,6 +1,7 @@
 -- What the functions for C take and leave, in numbers: a ring's state, and an answer's values in memory that the caller lends.
-use Rattle.std.specs.Prelude.{ℕ, List, [], ◌∷◌, take, get_or}
-use Rattle.refusal.specs.{Answer}
+use Rattle.std.specs.Prelude.{ℕ, List, [], ◌∷◌, Result, Ok, Err, take, get_or}
+use Rattle.refusal.specs.declared.Refusal.{Refusal}
+use Rattle.refusal.specs.{Answer, answered, refused_as}
 use Rattle.trace.specs.{digit}
 use Rattle.ring.specs.declared.Ring.{Ring}
 use Rattle.semantics.specs.declared.Verdict.{Verdict}
@@ -10,6 +11,11 @@ use Rattle.record.specs.Checking.{agrees}
 -- a state of two numbers: the next place, the count
 abbrev pub ring_in : List ℕ → Ring
 ring_in state = record { next = get_or state 0 0; count = get_or state 1 0 }
+
+-- an answer of some values, or a refusal
+abbrev pub values_answer : Result (List ℕ) Refusal → Answer
+values_answer (Ok values) = answered values
+values_answer (Err f) = refused_as f
 
 -- an answer with its first value alone: of a check, whether the record agrees
 abbrev pub first_alone : Answer → Answer

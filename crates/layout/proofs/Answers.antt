@@ -4,42 +4,36 @@
 use mathlib.Core.Path.{◌≡◌, refl, sym, ap, ◌∙◌}
 use mathlib.Core.List.{List}
 use Prim.Native.Nat.{ℕ}
+use Rattle.std.specs.Prelude.{Result, Ok, Err}
 use Rattle.refusal.specs.declared.Refusal.{Refusal}
-use Rattle.refusal.specs.declared.Check.{Check}
-use Rattle.refusal.specs.declared.Check.TheVariants.{Passed, Refused}
+use Rattle.refusal.specs.{Check, passed, told}
 use Rattle.layout.specs.declared.Parts.{Parts}
-use Rattle.layout.specs.declared.Reading.{Reading}
-use Rattle.layout.specs.declared.Reading.TheVariants as read
 use Rattle.layout.specs.Trailer.{trailer_check, parts_in, read_by, located_with, located}
 
-abbrev parts_of : Parts → Reading → Parts
-parts_of p (read.Record q) = q
-parts_of p (read.Refused f) = p
+abbrev parts_of : Parts → Result Parts Refusal → Parts
+parts_of p (Ok q) = q
+parts_of p (Err f) = p
 
-abbrev check_of : Reading → Check
-check_of (read.Record q) = Passed
-check_of (read.Refused f) = Refused f
+told_by : (c : Check) (p : Parts) → told (read_by c p) ≡ c
+told_by (Ok tt) p = refl
+told_by (Err f) p = refl
 
-check_of_lem : (c : Check) (p : Parts) → check_of (read_by c p) ≡ c
-check_of_lem Passed p = refl
-check_of_lem (Refused f) p = refl
+pub read-refused : (c : Check) (p : Parts) {f : Refusal} → read_by c p ≡ Err f → c ≡ Err f
+read-refused c p e = sym (told_by c p) ∙ ap told e
 
-pub read-refused : (c : Check) (p : Parts) {f : Refusal} → read_by c p ≡ read.Refused f → c ≡ Refused f
-read-refused c p e = sym (check_of_lem c p) ∙ ap check_of e
-
-pub read_passed : (c : Check) (p q : Parts) → read_by c p ≡ read.Record q → (c ≡ Passed) × (p ≡ q)
+pub read_passed : (c : Check) (p q : Parts) → read_by c p ≡ Ok q → (c ≡ passed) × (p ≡ q)
 read_passed c p q e =
-    let passed : c ≡ Passed = sym (check_of_lem c p) ∙ ap check_of e in
-    let both : read_by Passed p ≡ read.Record q = rw passed at e in
-    (passed, ap (parts_of p) both)
+    let all : c ≡ passed = sym (told_by c p) ∙ ap told e in
+    let both : read_by passed p ≡ Ok q = rw all at e in
+    (all, ap (parts_of p) both)
 
-module _ (bytes : List ℕ) {r : Reading} (l : r ≡ located bytes) where
-  pub located-refusal : {f : Refusal} → r ≡ read.Refused f → trailer_check bytes ≡ Refused f
+module _ (bytes : List ℕ) {r : Result Parts Refusal} (l : r ≡ located bytes) where
+  pub located-refusal : {f : Refusal} → r ≡ Err f → trailer_check bytes ≡ Err f
   unfolding located_with
   located-refusal e = read-refused (trailer_check bytes) (parts_in bytes) (sym l ∙ e)
 
-  module _ {p : Parts} (e : r ≡ read.Record p) where
-    pub located_passed : trailer_check bytes ≡ Passed
+  module _ {p : Parts} (e : r ≡ Ok p) where
+    pub located_passed : trailer_check bytes ≡ passed
     unfolding located_with
     located_passed = (read_passed (trailer_check bytes) (parts_in bytes) p (sym l ∙ e)).0
 

@@ -9,19 +9,17 @@ use mathlib.Core.List.{List, [], ◌∷◌, ◌++◌}
 use Prim.Native.Nat.{ℕ, ◌+◌, ◌-◌, ◌^◌, ◌<◌, ◌≤◌}
 use native.Mathlib.Omega.{arith}
 use lib.ListN.{length, take, drop, take-append-drop, drop_of_length-le}
-use Rattle.refusal.specs.declared.Check.TheVariants.{Passed}
+use Rattle.refusal.specs.{passed}
 use Rattle.trace.specs.{bytes_for, samples, pack}
 use Rattle.trace.proofs.Packing.{length-samples, length-pack}
 use Rattle.trace.proofs.Padding.{clean_packed}
-use Rattle.rule.specs.declared.Sorts.TheVariants.{Only}
 use Rattle.semantics.specs.Language.{Program}
 use Rattle.rule.specs.Form.{AreBytes, Accepted}
 use Rattle.rule.specs.Reading.{program_sort, program_check}
 use Rattle.rule.proofs.Programs.{passed_accepted, takes-only}
 use Rattle.encoding.specs.{low_first}
 use Rattle.layout.specs.Form.{Contents, format_of, format_sort, guard_samples, mark, label_bytes, label_size, least_trailer, after_trace, trailer_bytes, result_bytes, guard_part, guard_count, trace_distance, program_distance, trailer, label_part, layout_in, layout, Stated}
-use Rattle.layout.specs.declared.Label.TheVariants.{Absent, At}
-use Rattle.layout.specs.declared.GuardTrace.TheVariants as guard
+use Rattle.std.specs.Prelude.{Some, None}
 use Rattle.layout.specs.declared.Format.{Format}
 use Rattle.layout.specs.declared.Span.{Span}
 use Rattle.layout.specs.Trailer.{part_of, span, number_at, trace_span, guard_span, trailer_at, program_distance_in, trace_distance_in, samples_in, guard_samples_in, format_in, mark_in, verdict_in, passes_in, label_place, guard_place, label_at, guard_at, parts_for, contents_at}
@@ -75,7 +73,7 @@ module _ (F : Format) (bytes : List ℕ) (are : AreBytes bytes) (f : Fields F by
   guard-samples = go F.guarded (guard_span F bytes) (number_at 2 (place + 6) bytes)
     where
       go : (b : Bool) (s : Span) (k : ℕ)
-          → guard_samples (guard_at bytes (cond b (guard.At s (cond b k 0)) guard.Absent)) ≡ samples (part_of bytes s) (cond b k 0)
+          → guard_samples (guard_at bytes (cond b (Some (record { span = s; samples = cond b k 0 })) None)) ≡ samples (part_of bytes s) (cond b k 0)
       go true s k = refl
       go false s k = refl
 
@@ -115,7 +113,7 @@ module _ (F : Format) (bytes : List ℕ) (are : AreBytes bytes) (f : Fields F by
     where
       go : (b : Bool) (at : ℕ) (s : Span) → at + cond b 10 least_trailer ≡ length bytes
           → drop (at + 6) bytes
-          ≡ guard_count (guard_at bytes (cond b (guard.At s (cond b (number_at 2 (at + 6) bytes) 0)) guard.Absent)) ++ drop (length bytes - 2) bytes
+          ≡ guard_count (guard_at bytes (cond b (Some (record { span = s; samples = cond b (number_at 2 (at + 6) bytes) 0 })) None)) ++ drop (length bytes - 2) bytes
       go true at s e =
           rw (length-samples (part_of bytes s) (number_at 2 (at + 6) bytes))
           (split_number bytes are 2 (at + 6) {next = length bytes - 2} (omega arith) (omega arith))
@@ -147,7 +145,7 @@ module _ (F : Format) (bytes : List ℕ) (are : AreBytes bytes) (f : Fields F by
     where
       go : (b : Bool) → cond b label_bytes 0 + result_bytes ≤ second
           → drop (place - (cond b label_bytes 0 + result_bytes)) bytes
-          ≡ label_part (label_at bytes (cond b (At (span (place - (cond b label_bytes 0 + result_bytes)) label_bytes)) Absent))
+          ≡ label_part (label_at bytes (cond b (Some (span (place - (cond b label_bytes 0 + result_bytes)) label_bytes)) None))
           ++ drop (place - result_bytes) bytes
       go true h = split bytes (place - (label_bytes + result_bytes)) label_bytes {next = place - result_bytes} (omega (arith, distances))
       go false h = refl
@@ -186,14 +184,14 @@ module _ (F : Format) (bytes : List ℕ) (are : AreBytes bytes) (f : Fields F by
     unfolding parts_for
     format_back = parts-format bytes F (guard_span F bytes) m (place - after_trace F) by
 
-    program-held : program_check (Only (format_sort F)) C.program ≡ Passed → (P : Program) × Accepted C.program (format_sort (format_of C)) P
+    program-held : program_check (Some (format_sort F)) C.program ≡ passed → (P : Program) × Accepted C.program (format_sort (format_of C)) P
     program-held p =
-        let a = passed_accepted (Only (format_sort F)) C.program bytes_program p in
+        let a = passed_accepted (Some (format_sort F)) C.program bytes_program p in
         let sort : program_sort C.program ≡ format_sort (format_of C) =
         takes-only (format_sort F) (program_sort C.program) a.2 ∙ ap format_sort (sym format_back) in
         (a.0, rw sort at a.1)
 
-    pub contents-stated : program_check (Only (format_sort F)) C.program ≡ Passed → Stated C
+    pub contents-stated : program_check (Some (format_sort F)) C.program ≡ passed → Stated C
     unfolding parts_for
     contents-stated p =
         record {

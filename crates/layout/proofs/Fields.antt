@@ -12,7 +12,8 @@ use lib.Dec.{eqb, leb, ltb}
 use lib.ListN.{length}
 use borrow.Author.Tests.{ltb-false, leb-false, eqb-true, eqb-false, not-false, le-ltb, lt-leb, eq-eqb, ne_eqb}
 use Rattle.refusal.specs.declared.Refusal.TheVariants.{MarkOrFormat}
-use Rattle.refusal.specs.declared.Check.TheVariants.{Passed, Refused}
+use Rattle.std.specs.Prelude.{Err}
+use Rattle.refusal.specs.{passed}
 use Rattle.refusal.proofs.Checks.{then_passed, refuse_passed, either_passed}
 use Rattle.rule.proofs.Tests.{neither}
 use Rattle.trace.specs.{most_samples, bytes_for, padding_set}
@@ -36,7 +37,7 @@ pub record Fields (F : Format) (bytes : List ℕ) : Type 0 where
   pub verdict : verdict_in F bytes ≤ most_verdict
   pub counted : 1 ≤ passes_in F bytes
 
-pub fields_passed : (known : List Format) (F : Format) (bytes : List ℕ) → Reads known F → Fields F bytes → trailer_check_with known bytes ≡ Passed
+pub fields_passed : (known : List Format) (F : Format) (bytes : List ℕ) → Reads known F → Fields F bytes → trailer_check_with known bytes ≡ passed
 unfolding trailer_check_with
 fields_passed known F bytes r f =
     let none : passes_in F bytes ≡ 0 → ⊥ = λ e. omega arith in
@@ -62,7 +63,7 @@ fields_passed known F bytes r f =
 
 -- a format that is not known, whatever its number
 pub unknown_refused : (known : List Format) (bytes : List ℕ) → least_trailer ≤ length bytes → mark_in bytes ≡ mark
-    → knows known (format_in bytes) ≡ false → trailer_check_with known bytes ≡ Refused MarkOrFormat
+    → knows known (format_in bytes) ≡ false → trailer_check_with known bytes ≡ Err MarkOrFormat
 unfolding trailer_check_with
 unknown_refused known bytes long m k =
     rw (
@@ -95,7 +96,7 @@ fields_sound F before first second n m e =
     }
 
 -- bytes that pass end in a record of a format known, and in what is left of that
-pub passed_fields : (known : List Format) (bytes : List ℕ) → trailer_check_with known bytes ≡ Passed
+pub passed_fields : (known : List Format) (bytes : List ℕ) → trailer_check_with known bytes ≡ passed
     → (knows known (format_in bytes) ≡ true) × Fields (format_held known bytes) bytes
 unfolding trailer_check_with
 passed_fields known bytes e =

@@ -3,17 +3,17 @@
 --   is_packing_lem, packing_size,
 --   packing_few, packing_same               bytes that are a packing: their number, and that they are it
 --   low_bits                                two bytes of a number, by its low 16 bits
---   trailer-one, trailer-two                the trailer of what is recorded
---   length-layout, size-one, size-two       how long a record is, and what is recorded
---   layout-one                              what is recorded with one trace
+--   length-layout, size-recorded,
+--   part-one, part-two                      how long a record is, and what is recorded, with the guard trace in it
+--   in_pieces                               that in its pieces
 --   no_packing, no_verdict, no_space,
 --   put_whole                               an output, by what was tested and put
 --   filled-begins                           an output that is filled begins with the record
---   too_high, no_space-one, no_space-two    where the traces are packings: a verdict above 4, an output with no room
---   written-one, written-two                and one that the parts were put to, one after the other
+--   too_high, no_room_for                   where the traces are packings: a verdict above 4, an output with no room
+--   written                                 and one that the pieces were put to, one after the other
 use mathlib.Core.Path.{◌≡◌, refl, sym, ap, subst, ◌∙◌}
 use mathlib.Core.Bool.{Bool, true, false, cond, not, ◌&&◌}
-use mathlib.Core.List.{List, [], ◌∷◌, ◌++◌}
+use mathlib.Core.List.{List, [], ◌∷◌, ◌++◌, append_assoc}
 use Prim.Native.Nat.{ℕ, ◌+◌, ◌*◌, ◌/◌, ◌%◌, ◌<◌, ◌≤◌}
 use native.Mathlib.Omega.{arith}
 use lib.Arith.{mod-mul}
@@ -34,7 +34,8 @@ use Rattle.encoding.specs.{low_first, begins, put, place_after}
 use Rattle.encoding.proofs.Low.{length_low, low_two}
 use Rattle.encoding.proofs.Putting.{Left, no_room, front_put, left-put, left_end, left_front}
 use Rattle.layout.specs.declared.Format.{Format}
-use Rattle.layout.specs.Form.{format2, format3, Contents, format_of, mark, least_trailer, trailer_bytes, result_bytes, label_size, guard_part, guard_count, trailer, label_part, layout_in, layout, most_verdict}
+use Rattle.layout.specs.Form.{Contents, format_of, mark, least_trailer, trailer_bytes, result_bytes, label_size, guard_part, guard_count, trailer, label_part, trace_distance, program_distance, layout_in, layout, most_verdict}
+use Rattle.layout.specs.Steps.{format_filled, kept, trailer_end}
 use Rattle.layout.specs.Filling.{recorded, is_packing, are_packings, filled}
 use Rattle.layout.proofs.FormatLaws.{trailer-size}
 
@@ -91,36 +92,69 @@ length-layout c =
     let size : length (trailer (format_of c) c) ≡ trailer_bytes (format_of c) = length-trailer (format_of c) c ∙ trailer-size c.guard c.label in
     rw (length-append, length-append, length-append, length-append, length-append, length_low 4 c.passes, size)
 
--- with one trace, there is no guard trace between its bytes and the verdict byte
-pub layout-one : (program ram : List ℕ) (n : ℕ) (guard : List ℕ) (m : ℕ) (v : Verdict) → let c = recorded program (handed One ram n guard m) v in
-    layout c ≡ program ++ (pack (samples ram n) ++ ((verdict_number v.decision ∷ low_first 4 v.passes) ++ trailer format2 c))
-unfolding recorded layout_in
-layout-one program ram n guard m v = rw none_packed
+-- what is recorded of traces of a sort: its format, what stands between its ram trace and the trailer, and its length
+module _ (program ram : List ℕ) (n : ℕ) (guard : List ℕ) (m : ℕ) (v : Verdict) where
+  abbrev pub contents : Sort → Contents
+  contents sort = recorded program (handed sort ram n guard m) v
 
--- with one trace, and with two
-module _ (program ram : List ℕ) (n : ℕ) (guard : List ℕ) (m : ℕ) (v : Verdict) {k : ℕ} (e : k ≡ bytes_for n) where
-  pub trailer-one : low_first 2 (length program + (k + result_bytes))
-      ++ (low_first 2 (k + result_bytes) ++ (low_first 2 n ++ (format2.number ∷ mark ∷ [])))
-      ≡ trailer format2 (recorded program (handed One ram n guard m) v)
-  unfolding recorded label_size
-  trailer-one = rw (packed-size ram n, none_packed, length-samples ram n, e)
+  format-filled : (sort : Sort) → format_of (contents sort) ≡ format_filled sort
+  unfolding recorded
+  format-filled One = refl
+  format-filled Two = refl
 
-  pub size-one : length program + k + result_bytes + least_trailer ≡ length (layout (recorded program (handed One ram n guard m) v))
-  unfolding recorded trailer_bytes
-  size-one = omega (arith, length-layout (recorded program (handed One ram n guard m) v), packed-size ram n, ap length none_packed)
+  no_label : (sort : Sort) → label_size (format_filled sort) ≡ 0
+  unfolding label_size
+  no_label One = refl
+  no_label Two = refl
 
-  module _ {j : ℕ} (d : j ≡ bytes_for m) where
-    pub trailer-two : low_first 2 (length program + (k + j + result_bytes))
-        ++ (low_first 2 (k + j + result_bytes) ++ (low_first 2 n ++ (low_first 2 m ++ (format3.number ∷ mark ∷ []))))
-        ≡ trailer format3 (recorded program (handed Two ram n guard m) v)
-    unfolding recorded label_size
-    trailer-two =
-        let both : bytes_for n + (bytes_for m + result_bytes) ≡ k + j + result_bytes = omega arith in
-        rw (packed-size ram n, packed-size guard m, length-samples ram n, length-samples guard m, both)
+  pub part-one : length (guard_part (contents One).guard) ≡ 0
+  unfolding recorded
+  part-one = ap length none_packed
 
-    pub size-two : length program + (k + j) + result_bytes + trailer_bytes format3 ≡ length (layout (recorded program (handed Two ram n guard m) v))
-    unfolding recorded
-    size-two = omega (arith, length-layout (recorded program (handed Two ram n guard m) v), packed-size ram n, packed-size guard m)
+  pub part-two : length (guard_part (contents Two).guard) ≡ bytes_for m
+  unfolding recorded
+  part-two = packed-size guard m
+
+  kept-size : (sort : Sort) → length guard ≡ bytes_for m → length (kept sort guard) ≡ length (guard_part (contents sort).guard)
+  kept-size One e = sym part-one
+  kept-size Two e = e ∙ sym part-two
+
+  kept_packed : (sort : Sort) → guard ≡ pack (samples guard m) → kept sort guard ≡ guard_part (contents sort).guard
+  unfolding recorded
+  kept_packed One e = sym none_packed
+  kept_packed Two e = e
+
+  pub size-recorded : (sort : Sort) {k j : ℕ} → k ≡ bytes_for n → j ≡ length (guard_part (contents sort).guard)
+      → length program + (k + j + result_bytes) + trailer_bytes (format_filled sort) ≡ length (layout (contents sort))
+  unfolding recorded
+  size-recorded sort e d = omega (arith, length-layout (contents sort), packed-size ram n, ap trailer_bytes (format-filled sort))
+
+  -- the two distances
+  abbrev pub second : Sort → ℕ
+  second sort = length ram + length (kept sort guard) + result_bytes
+
+  abbrev pub first : Sort → ℕ
+  first sort = length program + second sort
+
+  -- what its trailer begins with
+  abbrev pub start : Sort → List ℕ
+  start sort = low_first 2 (first sort) ++ (low_first 2 (second sort) ++ low_first 2 n)
+
+  ends : (sort : Sort) → guard_count (contents sort).guard ++ ((format_filled sort).number ∷ mark ∷ []) ≡ trailer_end sort m
+  unfolding recorded
+  ends One = refl
+  ends Two = rw (length-samples guard m)
+
+  pub in_pieces : (sort : Sort) → length ram ≡ bytes_for n → length guard ≡ bytes_for m
+      → layout (contents sort)
+      ≡ program
+      ++ (pack (samples ram n)
+      ++ (guard_part (contents sort).guard ++ ((verdict_number v.decision ∷ low_first 4 v.passes) ++ (start sort ++ trailer_end sort m))))
+  unfolding layout_in recorded
+  in_pieces sort e d =
+      let behind : trace_distance (format_filled sort) (contents sort) ≡ second sort = omega (arith, packed-size ram n, kept-size sort d, no_label sort) in
+      let before : program_distance (format_filled sort) (contents sort) ≡ first sort = omega (arith, behind) in
+      rw (format-filled sort, before, behind, length-samples ram n, ends sort, append_assoc, append_assoc)
 
 -- ---- The output
 
@@ -163,79 +197,54 @@ abbrev Put : ℕ → List ℕ → List ℕ → ℕ → List ℕ → Type 0
 Put at text out at' out' = (at' ≡ place_after at text out) × (out' ≡ put at text out)
 
 -- both traces are packings
-module _ (program ram : List ℕ) (n : ℕ) (guard : List ℕ) (m : ℕ) (v : Verdict) (out : List ℕ) (r : is_packing ram n ≡ true)
+module _ (program ram : List ℕ) (n : ℕ) (guard : List ℕ) (m : ℕ) (v : Verdict) (out : List ℕ) (sort : Sort) (r : is_packing ram n ≡ true)
     (g : is_packing guard m ≡ true) where
-  abbrev traces : Sort → Handed
-  traces sort = handed sort ram n guard m
+  abbrev traces : Handed
+  traces = handed sort ram n guard m
 
-  abbrev contents : Sort → Contents
-  contents sort = recorded program (traces sort) v
+  abbrev C : Contents
+  C = contents program ram n guard m v sort
 
-  packings : (sort : Sort) → are_packings (traces sort) ≡ true
-  packings sort = rw (r, g)
+  packings : are_packings traces ≡ true
+  packings = rw (r, g)
 
-  -- the length of a record, and an output that is shorter
-  sized-one : length program + (length ram + result_bytes) + least_trailer ≡ length (layout (contents One))
-  sized-one = omega (arith, size-one program ram n guard m v (packing_size ram n r))
+  sized : length program + (length ram + length (kept sort guard) + result_bytes) + trailer_bytes (format_filled sort) ≡ length (layout C)
+  sized = size-recorded program ram n guard m v sort (packing_size ram n r) (kept-size program ram n guard m v sort (packing_size guard m g))
 
-  sized-two : length program + (length ram + length guard + result_bytes) + 10 ≡ length (layout (contents Two))
-  unfolding trailer_bytes
-  sized-two = omega (arith, size-two program ram n guard m v (packing_size ram n r) (packing_size guard m g))
+  -- by the guard trace's bytes that are written, and the size of the trailer
+  module _ {k : ℕ} {guard' : List ℕ} (w : guard' ≡ kept sort guard) (e : k ≡ trailer_bytes (format_filled sort)) where
+    pub no_room_for : length out < length program + (length ram + length guard' + result_bytes) + k → out ≡ filled program traces v out
+    no_room_for h = no_space program traces v out (omega (arith, sized, ap length w))
 
-  pub no_space-one : length out < length program + (length ram + result_bytes) + least_trailer → out ≡ filled program (traces One) v out
-  no_space-one h = no_space program (traces One) v out (rw (← sized-one) h)
-
-  pub no_space-two : length out < length program + (length ram + length guard + result_bytes) + 10 → out ≡ filled program (traces Two) v out
-  no_space-two h = no_space program (traces Two) v out (rw (← sized-two) h)
-
-  module _ {number : ℕ} (told : number ≡ verdict_number v.decision) where
-    pub too_high : (sort : Sort) → most_verdict < number → out ≡ filled program (traces sort) v out
-    unfolding recorded
-    too_high sort h = no_verdict program (traces sort) v out (packings sort) (rw (← told) h)
-
-    module _ (low : number ≤ most_verdict) where
-      small : (sort : Sort) → (contents sort).verdict ≤ most_verdict
+    module _ {number : ℕ} (told : number ≡ verdict_number v.decision) (low : number ≤ most_verdict) where
+      small : C.verdict ≤ most_verdict
       unfolding recorded
-      small sort = rw (← told) low
+      small = rw (← told) low
 
-      module _ (ram-bytes : AreBytes ram) {o o' o'' last-out text last : List ℕ} {p p' p'' last-place : ℕ} (first : Put 0 program out p o)
-          (second : Put p ram o p' o') (e : text ≡ number ∷ low_first 4 v.passes) where
-        pub written-one : length program + (length ram + result_bytes) + least_trailer ≤ length out → Put p' text o' p'' o''
-            → last
-            ≡ low_first 2 (length program + (length ram + result_bytes))
-            ++ (low_first 2 (length ram + result_bytes) ++ (low_first 2 n ++ (format2.number ∷ mark ∷ [])))
-            → Put p'' last o'' last-place last-out → last-out ≡ filled program (traces One) v out
-        written-one room third f fourth =
-            let whole = layout (contents One) in
-            let result = verdict_number v.decision ∷ low_first 4 v.passes in
-            let same = packing_same ram n r ram-bytes in
-            let begun : Left out 0 whole out 0 (program ++ (pack (samples ram n) ++ (result ++ trailer format2 (contents One)))) =
-            subst (λ (l : List ℕ). Left out 0 whole out 0 l) (layout-one program ram n guard m v)
-            (left_front out whole (omega (arith, sized-one))) in
-            let to-ram = left-put program begun first in
-            let to-result = left-put (pack (samples ram n)) to-ram (rw same at second) in
-            let to-trailer = left-put result to-result (rw (e, told) at third) in
-            let text-last = f ∙ trailer-one program ram n guard m v (packing_size ram n r) in
-            put_whole program (traces One) v out (packings One) (small One) (left_end to-trailer (rw text-last at fourth)).1
+      -- the pieces were put to it one after the other
+      pub written : AreBytes ram → AreBytes guard
+          → length program + (length ram + length guard' + result_bytes) + k ≤ length out
+          → {p₁ p₂ p₃ p₄ p₅ p₆ : ℕ} {o₁ o₂ o₃ o₄ o₅ o₆ text front : List ℕ}
+          → Put 0 program out p₁ o₁ → Put p₁ ram o₁ p₂ o₂ → Put p₂ guard' o₂ p₃ o₃
+          → text ≡ number ∷ low_first 4 v.passes → Put p₃ text o₃ p₄ o₄
+          → front
+          ≡ low_first 2 (length program + (length ram + length guard' + result_bytes))
+          ++ (low_first 2 (length ram + length guard' + result_bytes) ++ low_first 2 n)
+          → Put p₄ front o₄ p₅ o₅ → Put p₅ (trailer_end sort m) o₅ p₆ o₆ → o₆ ≡ filled program traces v out
+      written are are-guard room first second third t fourth f fifth sixth =
+          let whole = layout C in
+          let result = verdict_number v.decision ∷ low_first 4 v.passes in
+          let begun = subst (λ (l : List ℕ). Left out 0 whole out 0 l)
+          (in_pieces program ram n guard m v sort (packing_size ram n r) (packing_size guard m g))
+          (left_front out whole (omega (arith, sized, ap length w))) in
+          let to-ram = left-put program begun first in
+          let to-guard = left-put (pack (samples ram n)) to-ram (rw (packing_same ram n r are) at second) in
+          let to-result = left-put (guard_part C.guard) to-guard
+          (rw (w ∙ kept_packed program ram n guard m v sort (packing_same guard m g are-guard)) at third) in
+          let to-trailer = left-put result to-result (rw (t, told) at fourth) in
+          let to-end = left-put (start program ram n guard m v sort) to-trailer (rw (rw w at f) at fifth) in
+          put_whole program traces v out packings small (left_end to-end sixth).1
 
-        pub written-two : AreBytes guard → length program + (length ram + length guard + result_bytes) + 10 ≤ length out
-            → {p₃ : ℕ} {o₃ : List ℕ} → Put p' guard o' p'' o'' → Put p'' text o'' p₃ o₃
-            → last
-            ≡ low_first 2 (length program + (length ram + length guard + result_bytes))
-            ++ (low_first 2 (length ram + length guard + result_bytes) ++ (low_first 2 n ++ (low_first 2 m ++ (format3.number ∷ mark ∷ []))))
-            → Put p₃ last o₃ last-place last-out → last-out ≡ filled program (traces Two) v out
-        unfolding layout_in recorded
-        written-two guard-bytes room third fourth f fifth =
-            let whole = layout (contents Two) in
-            let result = verdict_number v.decision ∷ low_first 4 v.passes in
-            let same = packing_same ram n r ram-bytes in
-            let same-guard = packing_same guard m g guard-bytes in
-            let begun : Left out 0 whole out 0
-            (program ++ (pack (samples ram n) ++ (pack (samples guard m) ++ (result ++ trailer format3 (contents Two))))) =
-            left_front out whole (omega (arith, sized-two)) in
-            let to-ram = left-put program begun first in
-            let to-guard = left-put (pack (samples ram n)) to-ram (rw same at second) in
-            let to-result = left-put (pack (samples guard m)) to-guard (rw same-guard at third) in
-            let to-trailer = left-put result to-result (rw (e, told) at fourth) in
-            let text-last = f ∙ trailer-two program ram n guard m v (packing_size ram n r) (packing_size guard m g) in
-            put_whole program (traces Two) v out (packings Two) (small Two) (left_end to-trailer (rw text-last at fifth)).1
+  pub too_high : {number : ℕ} → number ≡ verdict_number v.decision → most_verdict < number → out ≡ filled program traces v out
+  unfolding recorded
+  too_high told h = no_verdict program traces v out packings (rw (← told) h)

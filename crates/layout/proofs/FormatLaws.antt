@@ -21,8 +21,7 @@ use Rattle.semantics.specs.Language.{Trace}
 use Rattle.encoding.proofs.Low.{length_low}
 use Rattle.layout.specs.declared.Format.{Format}
 use Rattle.layout.specs.declared.Span.{Span}
-use Rattle.layout.specs.declared.Label.TheVariants.{Absent, At}
-use Rattle.layout.specs.declared.GuardTrace.TheVariants as guard
+use Rattle.std.specs.Prelude.{Some, None}
 use Rattle.layout.specs.Form.{format1, format2, format3, formats, knows, numbered, format_for, label_bytes, least_trailer, trailer_bytes, label_size, guard_count, label_part, LabelFits}
 use Rattle.layout.specs.Trailer.{part_of, span, label_place, guard_place, label_at, guard_at}
 
@@ -129,10 +128,10 @@ label-size none none e = refl
 
 module _ (bytes : List ℕ) (F : Format) (s : Span) (m at : ℕ) where
   abbrev Guard : Bool → Option Trace
-  Guard g = guard_at bytes (cond g (guard.At s m) guard.Absent)
+  Guard g = guard_at bytes (cond g (Some (record { span = s; samples = m })) None)
 
   abbrev LabelHere : Bool → Option (List ℕ)
-  LabelHere b = label_at bytes (cond b (At (span at label_bytes)) Absent)
+  LabelHere b = label_at bytes (cond b (Some (span at label_bytes)) None)
 
   read-format : (g b : Bool) → format_for (Guard g) (LabelHere b) ≡ cond g format3 (cond b format1 format2)
   read-format true b = refl

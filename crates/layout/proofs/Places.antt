@@ -22,10 +22,9 @@ use Rattle.rule.proofs.FunctionBytes.{bytes_take, bytes_drop}
 use Rattle.encoding.specs.{low_first, from_low}
 use Rattle.encoding.proofs.Low.{length_low, from_low_lem, low_from, from_below}
 use Rattle.layout.specs.declared.Format.{Format}
-use Rattle.layout.specs.declared.Label.{Label}
-use Rattle.layout.specs.declared.Label.TheVariants.{Absent, At}
+use Rattle.std.specs.Prelude.{Option, Some, None}
 use Rattle.layout.specs.declared.GuardTrace.{GuardTrace}
-use Rattle.layout.specs.declared.GuardTrace.TheVariants as guard
+use Rattle.layout.specs.declared.Span.{Span}
 use Rattle.layout.specs.declared.Parts.{Parts}
 use Rattle.layout.specs.Form.{label_bytes, after_trace}
 use Rattle.layout.specs.Trailer.{part_of, span, number_at, trailer_at, guard_span, guard_samples_in, label_place, guard_place, parts_for}
@@ -92,14 +91,14 @@ module _ {bytes : List ℕ} {at : ℕ} where
 -- ---- The parts of a record
 
 -- a label lies within the bytes
-abbrev pub LabelWithin : List ℕ → Label → Type 0
-LabelWithin bytes (At s) = s.start + s.length ≤ length bytes
-LabelWithin bytes Absent = Unit {0}
+abbrev pub LabelWithin : List ℕ → Option Span → Type 0
+LabelWithin bytes (Some s) = s.start + s.length ≤ length bytes
+LabelWithin bytes None = Unit {0}
 
 -- a guard trace does, and has no more samples than a trace may
-abbrev pub GuardWithin : List ℕ → GuardTrace → Type 0
-GuardWithin bytes (guard.At s m) = (s.start + s.length ≤ length bytes) × (m ≤ most_samples)
-GuardWithin bytes guard.Absent = Unit {0}
+abbrev pub GuardWithin : List ℕ → Option GuardTrace → Type 0
+GuardWithin bytes (Some g) = (g.span.start + g.span.length ≤ length bytes) × (g.samples ≤ most_samples)
+GuardWithin bytes None = Unit {0}
 
 -- the parts lie within the bytes, and the program begins before their end
 pub record Within (bytes : List ℕ) (p : Parts) : Type 0 where
@@ -115,7 +114,7 @@ module _ (F : Format) (bytes : List ℕ) (f : Fields F bytes) where
   unfolding label_place
   label-within = go F.labelled
     where
-      go : (b : Bool) → LabelWithin bytes (cond b (At (span (trailer_at F bytes - after_trace F) label_bytes)) Absent)
+      go : (b : Bool) → LabelWithin bytes (cond b (Some (span (trailer_at F bytes - after_trace F) label_bytes)) None)
       go true = omega (arith, f.room, least_trailer_lem F)
       go false = tt
 
@@ -123,7 +122,7 @@ module _ (F : Format) (bytes : List ℕ) (f : Fields F bytes) where
   unfolding guard_place
   guard-within = go F.guarded
     where
-      go : (b : Bool) → GuardWithin bytes (cond b (guard.At (guard_span F bytes) (guard_samples_in F bytes)) guard.Absent)
+      go : (b : Bool) → GuardWithin bytes (cond b (Some (record { span = guard_span F bytes; samples = guard_samples_in F bytes })) None)
       go true = (omega (arith, f.room, f.second, f.larger, f.before), f.few_guard)
       go false = tt
 

@@ -1,21 +1,15 @@
 -- The trailer of a record, of documents 01 and 02: where the parts stand in bytes that end in it, and its refusals, 1 to 4 and 23.
-use Rattle.std.specs.Prelude.{ℕ, ◌+◌, ◌-◌, Bool, cond, not, ◌&&◌, ◌||◌, List, eqb, leb, ltb, length, get_or, take, drop}
-use Rattle.std.proofs.Math.Option.{Option, none, some}
+use Rattle.std.specs.Prelude.{ℕ, ◌+◌, ◌-◌, Bool, cond, not, ◌&&◌, ◌||◌, List, eqb, leb, ltb, length, get_or, take, drop, Option, Some, None, Result, Ok, Err}
+use Rattle.std.proofs.Math.Option as math
+use Rattle.refusal.specs.declared.Refusal.{Refusal}
 use Rattle.refusal.specs.declared.Refusal.TheVariants.{TrailerMissing, MarkOrFormat, TrailerFields, VerdictOrPasses, PaddingSet}
-use Rattle.refusal.specs.declared.Check.{Check}
-use Rattle.refusal.specs.declared.Check.TheVariants as check
-use Rattle.refusal.specs.{refuse_if, ◌then◌}
+use Rattle.refusal.specs.{Check, refuse_if, ◌then◌}
 use Rattle.trace.specs.{most_samples, bytes_for, samples, padding_set}
 use Rattle.encoding.specs.{from_low}
 use Rattle.layout.specs.declared.Format.{Format}
 use Rattle.layout.specs.declared.Span.{Span}
-use Rattle.layout.specs.declared.Label.{Label}
-use Rattle.layout.specs.declared.Label.TheVariants.{Absent, At}
 use Rattle.layout.specs.declared.GuardTrace.{GuardTrace}
-use Rattle.layout.specs.declared.GuardTrace.TheVariants as guard
 use Rattle.layout.specs.declared.Parts.{Parts}
-use Rattle.layout.specs.declared.Reading.{Reading}
-use Rattle.layout.specs.declared.Reading.TheVariants as read
 use Rattle.semantics.specs.Language.{Trace}
 use Rattle.layout.specs.Form.{formats, knows, numbered, Contents, mark, label_bytes, least_trailer, trailer_bytes, result_bytes, after_trace, most_verdict}
 
@@ -75,12 +69,12 @@ unfoldable pub passes_in : Format → List ℕ → ℕ
 passes_in F bytes = number_at 4 (trailer_at F bytes - 4) bytes
 
 -- the label that begins at a place; a format without one has 'no label'
-unfoldable pub label_place : Format → ℕ → Label
-label_place F start = cond F.labelled (At (span start label_bytes)) Absent
+unfoldable pub label_place : Format → ℕ → Option Span
+label_place F start = cond F.labelled (Some (span start label_bytes)) None
 
 -- the guard trace of so many samples that stands at a place; a format without one has none
-unfoldable pub guard_place : Format → Span → ℕ → GuardTrace
-guard_place F s m = cond F.guarded (guard.At s m) guard.Absent
+unfoldable pub guard_place : Format → Span → ℕ → Option GuardTrace
+guard_place F s m = cond F.guarded (Some (record { span = s; samples = m })) None
 
 -- ---- Refusals, in the order of the list
 
@@ -126,14 +120,14 @@ parts_for F bytes =
     }
 
 -- the label that stands at a place of the bytes
-abbrev pub label_at : List ℕ → Label → Option (List ℕ)
-label_at bytes (At s) = some (part_of bytes s)
-label_at bytes Absent = none
+abbrev pub label_at : List ℕ → Option Span → math.Option (List ℕ)
+label_at bytes (Some s) = math.some (part_of bytes s)
+label_at bytes None = math.none
 
 -- the guard trace that stands at a place of the bytes
-abbrev pub guard_at : List ℕ → GuardTrace → Option Trace
-guard_at bytes (guard.At s m) = some (samples (part_of bytes s) m)
-guard_at bytes guard.Absent = none
+abbrev pub guard_at : List ℕ → Option GuardTrace → math.Option Trace
+guard_at bytes (Some g) = math.some (samples (part_of bytes g.span) g.samples)
+guard_at bytes None = math.none
 
 -- the contents that parts of the bytes make up
 abbrev pub contents_at : List ℕ → Parts → Contents
@@ -149,15 +143,15 @@ contents_at bytes p =
 
 -- ---- Reading, up to the program
 
-abbrev pub read_by : Check → Parts → Reading
-read_by check.Passed p = read.Record p
-read_by (check.Refused f) p = read.Refused f
+abbrev pub read_by : Check → Parts → Result Parts Refusal
+read_by (Ok u) p = Ok p
+read_by (Err f) p = Err f
 
 abbrev pub parts_with : List Format → List ℕ → Parts
 parts_with known bytes = parts_for (format_held known bytes) bytes
 
 -- reading without the program's check, of a release that knows these formats
-unfoldable pub located_with : List Format → List ℕ → Reading
+unfoldable pub located_with : List Format → List ℕ → Result Parts Refusal
 located_with known bytes = read_by (trailer_check_with known bytes) (parts_with known bytes)
 
 -- ---- With the formats that are read
@@ -172,5 +166,5 @@ parts_in = parts_with formats
 abbrev pub contents_in : List ℕ → Contents
 contents_in bytes = contents_at bytes (parts_in bytes)
 
-abbrev pub located : List ℕ → Reading
+abbrev pub located : List ℕ → Result Parts Refusal
 located = located_with formats

@@ -37,8 +37,9 @@ pub const GUARD_TRAILER: usize = 10;
 // The highest number of a verdict.
 pub const MOST_VERDICT: u8 = 4;
 
-// A format of records: its number, and whether its records have a site label and a guard trace.
-#[derive(Clone, Copy)]
+// A format of records: its number, and whether its records have a site label and a guard trace. These are flags, and the
+// number is no enum, since the theorems on older releases speak of any list of formats.
+#[derive(Clone, Copy, PartialEq, Eq, Debug)]
 pub struct Format {
     pub number: u8,
     pub labelled: bool,
@@ -46,98 +47,73 @@ pub struct Format {
 }
 
 // A part of the caller's bytes.
-#[derive(Clone, Copy)]
+#[derive(Clone, Copy, PartialEq, Eq, Debug)]
 pub struct Span {
     pub start: usize,
     pub length: usize,
 }
 
-// The site label of a record: there is none, or its eight bytes stand at a place.
-#[derive(Clone, Copy)]
-pub enum Label {
-    Absent,
-    At(Span),
-}
-
-// The guard trace of a record: there is none, or its bytes stand at a place, with so many samples.
-#[derive(Clone, Copy)]
-pub enum GuardTrace {
-    Absent,
-    At(Span, u16),
+// The guard trace of a record: where its bytes stand, and the number of its samples.
+#[derive(Clone, Copy, PartialEq, Eq, Debug)]
+pub struct GuardTrace {
+    pub span: Span,
+    pub samples: u16,
 }
 
 // The parts of a record: the number of its format, where they stand in the caller's bytes, and the numbers stored; `trace`
-// and `n` are the ram's. The bytes before the record are those before its program.
-#[derive(Clone, Copy)]
+// and `n` are the ram's, and the label has eight bytes. The bytes before the record are those before its program. Format and
+// verdict are the numbers in the bytes and no enums, since `contents_at` and the theorems on it speak of those.
+#[derive(Clone, Copy, PartialEq, Eq, Debug)]
 pub struct Parts {
     pub format: u8,
     pub program: Span,
     pub trace: Span,
     pub n: u16,
-    pub guard: GuardTrace,
-    pub label: Label,
+    pub guard: Option<GuardTrace>,
+    pub label: Option<Span>,
     pub verdict: u8,
     pub passes: u32,
 }
 
-// What reading answers.
-#[derive(Clone, Copy)]
-pub enum Reading {
-    Record(Parts),
-    Refused(Refusal),
-}
-
 // Locates the parts of the record that the bytes end in; its program is not judged.
-pub fn locate(bytes: &[u8]) -> Reading
+pub fn locate(bytes: &[u8]) -> Result<Parts, Refusal>
     ensures { result ≡ located bytes.now }
 {
     let len = bytes.len();
     if len < TRAILER {
-        return Reading::Refused(Refusal::TrailerMissing);
+        return Err(Refusal::TrailerMissing);
     }
     if bytes[len - 1] != MARK {
-        return Reading::Refused(Refusal::MarkOrFormat);
+        return Err(Refusal::MarkOrFormat);
     }
     let number = bytes[len - 2];
     if !formats::knows(number) {
-        return Reading::Refused(Refusal::MarkOrFormat);
+        return Err(Refusal::MarkOrFormat);
     }
     let format = formats::numbered(number);
     let size = formats::trailer_bytes(format);
     if len < size {
-        return Reading::Refused(Refusal::TrailerMissing);
+        return Err(Refusal::TrailerMissing);
     }
-    let at = len - size;
-    let first = trailer::sixteen(bytes, at) as usize;
-    let second = trailer::sixteen(bytes, at + 2) as usize;
-    let n = trailer::sixteen(bytes, at + 4);
-    let m = trailer::guard_samples(bytes, format, at);
-    if trailer::fields_fault(format, at, first, second, n as usize, m as usize) {
-        return Reading::Refused(Refusal::TrailerFields);
+    let fields = trailer::Fields::read(bytes, format, len - size);
+    if fields.are_faulty(format) {
+        return Err(Refusal::TrailerFields);
     }
-    trailer::stored_parts(bytes, format, at, first, second, n, m)
+    fields.parts(bytes, format)
 }
 
 // A part of the bytes, as far as they go.
+#[tactic(auto, unfolding(crate::specs::Trailer::part_of), using(std::proofs::lemmas::List::take_min, std::proofs::lemmas::List::drop_min, encoding::proofs::Putting::part_rest))]
 pub fn part(bytes: &[u8], span: Span) -> &[u8]
     ensures { result.now ≡ part_of bytes.now span }
 {
-    let len = bytes.len();
-    let start = span.start;
-    let length = span.length;
-    if len < start {
-        return &bytes[len..];
-    }
-    if len - start < length {
-        return &bytes[start..];
-    }
-    let end = start + length;
-    &bytes[start..end]
+    let rest = &bytes[span.start.min(bytes.len())..];
+    &rest[..span.length.min(rest.len())]
 }
 
 // Writes a record to the front of the output, with the traces' very bytes: of format 2, or with two traces of format 3. Where
 // these are not those of n and m samples, the verdict has a number that no record holds, or there is no room, nothing is
-// written. With one trace `guard` has no bytes and `m` is 0.
+// written. With one trace `guard` has no bytes and `m` is 0. The traces come one by one, as docs/PROMISES.md has the clause over them.
 pub fn fill(
     program: &[u8],
     sort: Sort,
@@ -150,52 +126,25 @@ pub fn fill(
 )
     ensures { out.new ≡ filled program.now (handed sort ram.now n guard.now m) verdict out.old }
 {
-    if !pieces::is_packing(ram, n as usize) {
+    if !pieces::is_packing(ram, n as usize) || !pieces::is_packing(guard, m as usize) {
         return;
     }
-    if !pieces::is_packing(guard, m as usize) {
-        return;
-    }
-    let decision = verdict.decision;
-    let number = semantics::verdict_number(decision);
+    let number = semantics::verdict_number(verdict.decision);
     if (MOST_VERDICT as u32) < number {
         return;
     }
-    match sort {
-        Sort::One => {
-            let second = ram.len() + RESULT;
-            let first = program.len() + second;
-            if out.len() < first + TRAILER {
-                return;
-            }
-            let after_program = encoding::put(out, 0, program);
-            let after_ram = encoding::put(out, after_program, ram);
-            let after_passes = encoding::put(
-                out,
-                after_ram,
-                &pieces::verdict_bytes(number as u8, verdict.passes),
-            );
-            encoding::put(out, after_passes, &pieces::trailer_bytes(first, second, n));
-        }
-        Sort::Two => {
-            let second = ram.len() + guard.len() + RESULT;
-            let first = program.len() + second;
-            if out.len() < first + GUARD_TRAILER {
-                return;
-            }
-            let after_program = encoding::put(out, 0, program);
-            let after_ram = encoding::put(out, after_program, ram);
-            let after_guard = encoding::put(out, after_ram, guard);
-            let after_passes = encoding::put(
-                out,
-                after_guard,
-                &pieces::verdict_bytes(number as u8, verdict.passes),
-            );
-            encoding::put(
-                out,
-                after_passes,
-                &pieces::guard_trailer_bytes(first, second, n, m),
-            );
-        }
+    let guard = pieces::guard_kept(sort, guard);
+    let second = ram.len() + guard.len() + RESULT;
+    let first = program.len() + second;
+    if out.len() < first + pieces::trailer_size(sort) {
+        return;
     }
+    let after_program = encoding::put(out, 0, program);
+    let after_ram = encoding::put(out, after_program, ram);
+    let after_guard = encoding::put(out, after_ram, guard);
+    let result = pieces::verdict_bytes(number as u8, verdict.passes);
+    let after_result = encoding::put(out, after_guard, &result);
+    let start = pieces::trailer_start(first, second, n);
+    let after_start = encoding::put(out, after_result, &start);
+    pieces::put_trailer_end(out, after_start, sort, m);
 }

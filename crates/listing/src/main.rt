@@ -2,7 +2,7 @@
 // an input that could not be read to its end.
 #![tactic(auto)]
 
-ghost use Rattle.listing.specs.{within};
+ghost use Rattle.std.specs.Prelude.{◌≤◌, IfOk, length};
 
 use std::io;
 use std::io::{Read, Write};
@@ -10,41 +10,33 @@ use std::io::{Read, Write};
 // An archive that is too long to be listed is known by its first byte too many.
 const ROOM: usize = archive::MOST_ARCHIVE + 1;
 
-// What reading came to: the end of the input or a full buffer, after so many bytes; or a read that failed.
-#[derive(Clone, Copy)]
-enum Input {
-    Bytes(usize),
-    Failed,
-}
-
 fn main(rt: HostRuntime) {
     let mut archive = [0u8; ROOM];
     match read_archive(&mut rt.stdin(), &mut archive) {
-        Input::Bytes(n) => {
+        Ok(n) => {
             if list(&mut rt.stdout(), &archive[..n]).is_err() {
                 tell(rt, b"listing: standard output cannot be written\n");
             }
         }
-        Input::Failed => tell(rt, b"listing: standard input cannot be read\n"),
+        Err(_) => tell(rt, b"listing: standard input cannot be read\n"),
     }
 }
 
-// Reads an input until it ends, the buffer is full or a read fails. A read that a signal interrupts is one that
-// failed.
-fn read_archive<R: Read>(input: &mut R, buffer: &mut [u8]) -> Input
-    ensures { within result buffer.new }
+// Reads an input until it ends or the buffer is full, and answers how many bytes it read. A read that a signal
+// interrupts is one that failed: std's `read_to_end` would go on, and needs a heap. The program `cases` has the same
+// function; a crate for it alone would be no plainer.
+fn read_archive<R: Read>(input: &mut R, buffer: &mut [u8]) -> io::Result<usize>
+    ensures within { IfOk result (λ done. done ≤ length buffer.new) }
 {
     let mut done = 0;
     while done < buffer.len() {
-        let Ok(more) = input.read(&mut buffer[done..]) else {
-            return Input::Failed;
-        };
+        let more = input.read(&mut buffer[done..])?;
         if more == 0 {
-            return Input::Bytes(done);
+            return Ok(done);
         }
         done += more;
     }
-    Input::Bytes(done)
+    Ok(done)
 }
 
 // Writes the listing of an archive.

@@ -1,15 +1,19 @@
--- Laws of the code, for each loop its start, a turn, its end:
+-- Laws of the code:
 --   Read, read-start, read_outer, read-call, read_inner, read_whole    the bytes of a body
---   Going, going_start, going_stop, going_more, going_whole            the bodies of a program
-use mathlib.Core.Path.{◌≡◌, refl, sym, ap, ◌∙◌}
-use mathlib.Core.Bool.{Bool, true, false, not, ◌&&◌}
+--   bodies_mean                                                        the bodies of a program
+use mathlib.Core.Path.{◌≡◌, refl, sym, ◌∙◌}
+use mathlib.Core.Bool.{Bool, true, false, ◌&&◌, and-false}
 use mathlib.Core.List.{List, [], ◌∷◌}
 use Prim.Native.Nat.{ℕ, zero, suc, ◌+◌, ◌-◌, ◌*◌, ◌<◌, ◌≤◌}
 use native.Mathlib.Numerals.{add-one, sub-one}
 use native.Mathlib.Omega.{arith}
 use lib.ListN.{length, get_or, drop, length-drop}
 use lib.Seq.{drop-cons}
-use borrow.Author.Tests.{not-true, not-false}
+use lib.Dec.{eqb}
+use borrow.Author.Tests.{eqb-true, eqb-false}
+use Rattle.std.specs.Bool.{MatchBool}
+use Rattle.std.specs.List.{range_with_len, AllWithin, HoldsAt}
+use Rattle.std.proofs.lemmas.List.FromFn.{length-range_with_len, get_or-range_with_len}
 use Rattle.syntax.specs.declared.Node.{Node}
 use Rattle.syntax.specs.Limits.{most_params}
 use Rattle.syntax.specs.Bytes.{node_of}
@@ -61,26 +65,33 @@ module _ (params body : List ℕ) where
 
 -- ---- Bodies
 
--- the bodies before i are read
-pub record Going (loops : ℕ → Bool) (n i : ℕ) : Type 0 where
-  pub below : i ≤ n
-  pub rest : bodies_loop loops n 0 ≡ bodies_loop loops (n - i) i
-
-pub going_start : (loops : ℕ → Bool) (n : ℕ) → Going loops n 0
-going_start loops n = record { below = omega arith; rest = ap (λ (m : ℕ). bodies_loop loops m 0) (omega arith) }
-
-module _ {loops : ℕ → Bool} {n i : ℕ} (g : Going loops n i) where
-  pub going_whole : n ≤ i → true ≡ bodies_loop loops n 0
+module _ (loops : ℕ → Bool) where
+  all_loop : (n a : ℕ) → ((k : ℕ) → a ≤ k → k < a + n → loops k ≡ true) → bodies_loop loops n a ≡ true
   unfolding bodies_loop
-  going_whole h = let none : n - i ≡ 0 = omega arith in sym (rw none at g.rest)
+  all_loop zero a h = refl
+  all_loop (suc n) a h = rw (h a (omega arith) (omega arith), all_loop n (a + 1) (λ k l m. h k (omega arith) (omega arith)))
 
-  turn : i < n → bodies_loop loops n 0 ≡ (loops i && bodies_loop loops (n - (i + 1)) (i + 1))
+  one_stops : (n a k : ℕ) → a ≤ k → k < a + n → loops k ≡ false → bodies_loop loops n a ≡ false
   unfolding bodies_loop
-  turn h = let more : n - i ≡ suc (n - (i + 1)) = omega arith in rw more at g.rest
+  one_stops zero a k l m e = absurd (omega arith)
+  one_stops (suc n) a k l m e = go (eqb k a) refl (λ l'. one_stops n (a + 1) k l' (omega arith) e)
+    where
+      go : (b : Bool) → eqb k a ≡ b → (a + 1 ≤ k → bodies_loop loops n (a + 1) ≡ false) → (loops a && bodies_loop loops n (a + 1)) ≡ false
+      go true q later = let same = eqb-true k a q in rw (← same, e)
+      go false q later = let other = eqb-false k a q in rw (later (omega arith)) (and-false (loops a))
 
-  -- `r` is what the code has of body i
-  pub going_stop : {r : Bool} → i < n → r ≡ loops i → not r ≡ true → false ≡ bodies_loop loops n 0
-  going_stop {r} h e t = let stops : loops i ≡ false = sym e ∙ not-true r t in sym (rw stops at (turn h))
+  here : (n k : ℕ) → k < n → get_or (range_with_len 0 n) k 0 ≡ k
+  here n k h = get_or-range_with_len 0 n k 0 h ∙ omega arith
 
-  pub going_more : {r : Bool} → i < n → r ≡ loops i → not r ≡ false → Going loops n (i + 1)
-  going_more {r} h e t = let more : loops i ≡ true = sym e ∙ not-false r t in record { below = omega arith; rest = rw more at (turn h) }
+  -- `r` is what the code has of n bodies
+  pub bodies_mean : (n : ℕ) (r : Bool)
+      → MatchBool r (AllWithin (λ i. loops i ≡ true) (range_with_len 0 n) 0 (length (range_with_len 0 n)))
+      ((k : ℕ) × (k < length (range_with_len 0 n)) × HoldsAt (λ i. loops i ≡ false) (range_with_len 0 n) k)
+      → r ≡ bodies_loop loops n 0
+  bodies_mean n true m =
+      let size = length-range_with_len 0 n in
+      sym (all_loop n 0 (λ k l h. rw (here n k (omega arith)) at (m k 0 l (omega arith))))
+  bodies_mean n false m =
+      let size = length-range_with_len 0 n in
+      let h : m.0 < n = omega (arith, m.1) in
+      sym (one_stops n 0 m.0 (omega arith) (omega arith) (rw (here n m.0 h) at (m.2 0)))

@@ -5,7 +5,7 @@
 
 ghost use Rattle.std.specs.Prelude.{◌≡◌, ◌<◌, ◌≤◌, length};
 ghost use Rattle.syntax.specs.Limits.{most_params};
-ghost use Rattle.loops.specs.{shape_of, loops_from, body_loops, loops_by};
+ghost use Rattle.loops.specs.{plain, shape_of, loops_from, body_loops, loops_by};
 
 use rule::Outline;
 use syntax::Node;
@@ -20,37 +20,21 @@ pub struct Shape {
 }
 
 // Whether a program only loops, by its outline; false where a body does not lie within the program.
-pub fn only_loops(program: &[u8], outline: Outline) -> bool
-    ensures { result ≡ loops_by program.now outline }
+pub fn only_loops(program: &[u8], outline: &Outline) -> bool
+    ensures { result ≡ loops_by program.now outline.now }
 {
-    let count = codes::smaller(outline.functions as usize, syntax::MOST_FUNCTIONS as usize);
-    let params = outline.params;
-    let starts = outline.starts;
-    let ends = outline.ends;
-    let mut i: usize = 0;
-    while i < count {
-        if !body_loops(program, &params, starts[i], ends[i]) {
-            return false;
-        }
-        i += 1;
-    }
-    true
+    let count = (outline.functions as usize).min(syntax::MOST_FUNCTIONS as usize);
+    (0..count).all(|i| body_loops(program, &outline.params, outline.starts[i], outline.ends[i]))
 }
 
 // Whether in the body between two places calls stand only where they may.
 fn body_loops(program: &[u8], params: &[u8; 32], start: u16, end: u16) -> bool
     ensures { result ≡ body_loops program.now params.now start end }
 {
-    let first = start as usize;
-    let last = end as usize;
-    if last < first {
-        return false;
+    match program.get(start as usize..end as usize) {
+        Some(body) => bytes_loop(body, params),
+        None => false,
     }
-    if program.len() < last {
-        return false;
-    }
-    let body = &program[first..last];
-    bytes_loop(body, params)
 }
 
 // Whether in the bytes of a body calls stand only where they may. Before each byte `due` expressions are due in which none may;
@@ -60,9 +44,8 @@ fn bytes_loop(body: &[u8], params: &[u8; 32]) -> bool
     ensures { result ≡ loops_from params.now 0 body.now }
 {
     let mut due: u64 = 0;
-    let mut i: usize = 0;
-    while i < body.len() {
-        let shape = shape_of(params, syntax::node_of(body[i]));
+    for byte in body {
+        let shape = shape_of(params, syntax::node_of(*byte));
         if due == 0 {
             due = shape.inner;
         } else {
@@ -71,40 +54,33 @@ fn bytes_loop(body: &[u8], params: &[u8; 32]) -> bool
             }
             due = due - 1 + shape.operands;
         }
-        i += 1;
     }
     true
+}
+
+// A node with so many operands, in none of which a call may stand.
+const fn plain(operands: u64) -> Shape
+    ensures { result ≡ plain operands }
+{
+    Shape {
+        call: false,
+        operands,
+        inner: operands,
+    }
 }
 
 // What a node asks for; `params` are the functions' counts of parameters.
 fn shape_of(params: &[u8; 32], node: Node) -> Shape
     ensures { (result ≡ shape_of params.now node) × (result.operands ≤ most_params) × (result.inner ≤ most_params) }
 {
-    let leaf = Shape {
-        call: false,
-        operands: 0,
-        inner: 0,
-    };
-    let unary = Shape {
-        call: false,
-        operands: 1,
-        inner: 1,
-    };
     match node {
-        Node::False => leaf,
-        Node::True => leaf,
-        Node::Empty => leaf,
-        Node::EmptyGuard => leaf,
-        Node::Param(_) => leaf,
-        Node::Head => unary,
-        Node::Tail => unary,
-        Node::Null => unary,
+        Node::False | Node::True | Node::Empty | Node::EmptyGuard | Node::Param(_) => plain(0),
+        Node::Head | Node::Tail | Node::Null => plain(1),
         Node::If => Shape {
             call: false,
             operands: 3,
             inner: 1,
         },
-        Node::Cons => leaf,
         Node::Call(g) => {
             let count = rule::at_most_four(params[(g % syntax::MOST_FUNCTIONS) as usize]);
             Shape {
@@ -113,6 +89,6 @@ fn shape_of(params: &[u8; 32], node: Node) -> Shape
                 inner: count,
             }
         }
-        Node::Unknown => leaf,
+        Node::Cons | Node::Unknown => plain(0),
     }
 }

@@ -1,13 +1,15 @@
 -- The cells of a function, visited one after the other:
 --   count_few                    a function has at most four parameters
 --   cell-inside, cell-few        a cell that a pass comes to is the function's, and its number fits
+--   Worked, worked, row_ready
+--                                what is worked out of a function once, and that a row can begin
 --   width_some, row_at, row_last,
 --   row_inside, digit-fits       the cells of a row: their values, those of the last, where they lie, and the last parameter's value
 --   Stepping                     some rows have been visited, and the values are those of the next cell
 --   stepping_start               before the first
 --   stepping_ready, stepping_few,
 --   stepping_more, stepping_end  what the next row asks, after one more, and after all
-use mathlib.Core.Path.{◌≡◌, refl}
+use mathlib.Core.Path.{◌≡◌, refl, ap, ◌∙◌}
 use mathlib.Core.Bool.{Bool, true, false, cond}
 use mathlib.Core.List.{List}
 use Prim.Native.Nat.{ℕ, ◌+◌, ◌-◌, ◌%◌, ◌<◌, ◌≤◌}
@@ -20,9 +22,9 @@ use Rattle.rule.specs.Walk.{at_most_four}
 use Rattle.codes.specs.declared.Lengths.{Lengths}
 use Rattle.codes.specs.{Short}
 use Rattle.decoding.specs.Decoding.{signature_in}
-use Rattle.evaluator.specs.{digit_bound}
+use Rattle.evaluator.specs.{function_at, digit_bound}
 use Rattle.passes.specs.Digits.{configurations, array_of, firsts_of, lasts_of, AtCell, StepsCells}
-use Rattle.passes.specs.Mirror.{most_configurations, Setup, count_of, last_of, low_of, high_of, size_of, Ready, RowReady, SameOthers, visits_from, stores_from}
+use Rattle.passes.specs.Mirror.{most_configurations, Setup, count_of, last_of, low_of, high_of, width_of, size_from, size_of, Ready, RowReady, SameOthers, visits_from, stores_from}
 use Rattle.passes.proofs.Digits.{size-kinds, size_most, at_first, at_others, at_row, low_high, high_small}
 use Rattle.passes.proofs.PassWays.{Visited, visited_start, visited_length, visited_few, visited_row, visited_end}
 
@@ -43,6 +45,40 @@ module _ (functions : List ℕ) (g : ℕ) {n : Lengths} {index digit : ℕ} {env
 
   pub cell-few : Short n → index < most_configurations
   cell-few few = omega (arith, cell-inside, size_most (signature_in functions g) n few (count_of functions g) (count_few functions g))
+
+-- ---- What is worked out of a function once in a pass
+
+pub record Worked (functions : List ℕ) (n : Lengths) (g slot size width : ℕ) (firsts lasts : List ℕ) : Type 0 where
+  pub place : slot ≡ last_of functions g
+  pub cells : size ≡ size_of functions n g
+  pub first : firsts ≡ firsts_of (signature_in functions g) (count_of functions g)
+  pub last : lasts ≡ lasts_of (signature_in functions g) (count_of functions g) n
+  pub low : get_or firsts slot 0 ≡ low_of functions g
+  pub wide : width ≡ width_of functions n g
+
+-- by the number of parameters
+pub worked : (functions : List ℕ) (n : Lengths) (g : ℕ) {count slot size width : ℕ} {firsts lasts : List ℕ} → count ≡ count_of functions g → slot ≡ count - 1
+    → size ≡ size_from (signature_in functions g) n 0 count → firsts ≡ firsts_of (signature_in functions g) count
+    → lasts ≡ lasts_of (signature_in functions g) count n → width ≡ get_or lasts slot 0 + 1 - get_or firsts slot 0
+    → Worked functions n g slot size width firsts lasts
+worked functions n g {slot = slot} {firsts = firsts} {lasts = lasts} c s z f l w =
+    let place : slot ≡ last_of functions g = s ∙ ap (λ (k : ℕ). k - 1) c in
+    let first : firsts ≡ firsts_of (signature_in functions g) (count_of functions g) = rw c at f in
+    let last : lasts ≡ lasts_of (signature_in functions g) (count_of functions g) n = rw c at l in
+    let low : get_or firsts slot 0 ≡ low_of functions g = rw (first, place) in
+    let high : get_or lasts slot 0 ≡ high_of functions n g = rw (last, place) in
+    record {
+      place = place;
+      cells = z ∙ ap (size_from (signature_in functions g) n 0) c;
+      first = first;
+      last = last;
+      low = low;
+      wide = rw (low, high) at w;
+    }
+
+module _ {functions : List ℕ} {n : Lengths} {g slot size width : ℕ} {firsts lasts : List ℕ} (w : Worked functions n g slot size width firsts lasts) where
+  pub row_ready : (words : List ℕ) {len : ℕ} → Ready functions n g len → RowReady words functions n g len (function_at words g) slot (get_or firsts slot 0) width
+  row_ready words u = record { ready = u; word = refl; place = w.place; first = w.low; wide = w.wide }
 
 -- ---- A row
 

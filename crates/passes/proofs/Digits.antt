@@ -22,13 +22,15 @@ use lib.ListN.{length, get_or, set, drop, length-set, length-append, length-repl
 use lib.Seq.{get_or-append_seam, set-append_seam, get_or-set_same, get_or-set_other, set-set, set_comm}
 use borrow.Author.Tests.{lt-ltb, le-ltb, lt-leb, ltb-true, ltb-false}
 use Rattle.semantics.specs.declared.Contact.TheVariants.{Ram, Guard}
-use Rattle.semantics.specs.Language.{Kind, truth, list, Traces, Value, given, in_kind, InKinds}
+use Rattle.semantics.specs.declared.Kind.{Kind}
+use Rattle.semantics.specs.declared.Kind.TheVariants.{Truth as truth, List as list}
+use Rattle.semantics.specs.Language.{Traces, Value, given, in_kind, InKinds}
 use Rattle.semantics.specs.Numbering.{kind_size, digit_of, value_at}
 use Rattle.semantics.specs.Digits.{first_values, next_values}
 use Rattle.semantics.proofs.Numbering.{kind_pos, size_pos, digit_lt, value_digit, values_in_lem}
 use Rattle.semantics.proofs.Digits.{first-values, step_values, before, by_last, next_last}
 use Rattle.syntax.specs.Limits.{most_params}
-use Rattle.syntax.specs.Kinds.{kind_number, signature_of, kind_in}
+use Rattle.syntax.specs.Kinds.{signature_of, kind_in}
 use Rattle.rule.specs.Reading.{kind_at, kinds_from}
 use Rattle.rule.proofs.KindBytes.{length-kinds}
 use Rattle.codes.specs.declared.Lengths.{Lengths}
@@ -114,14 +116,14 @@ module _ (firsts lasts : List ℕ) where
 -- ---- One digit
 
 -- the working number of a value, by its place among those of its kind
-number_at : (t : Traces) (κ : Kind) (d : ℕ) → d < kind_size t κ → working_of (given (value_at κ d)) ≡ lowest_code (kind_number κ) + d
+number_at : (t : Traces) (κ : Kind) (d : ℕ) → d < kind_size t κ → working_of (given (value_at κ d)) ≡ lowest_code κ + d
 number_at t truth zero h = refl
 number_at t truth (suc zero) h = refl
 number_at t truth (suc (suc d)) h = absurd (omega arith)
 number_at t (list Ram) d h = refl
 number_at t (list Guard) d h = refl
 
-number_in : (t : Traces) (κ : Kind) (v : Value) → T (in_kind t κ v) → working_of (given v) ≡ lowest_code (kind_number κ) + digit_of v
+number_in : (t : Traces) (κ : Kind) (v : Value) → T (in_kind t κ v) → working_of (given v) ≡ lowest_code κ + digit_of v
 number_in t κ v h = rw (value_digit t κ v h) at (number_at t κ (digit_of v) (digit_lt t κ v h))
 
 -- the test whether it goes up
@@ -180,8 +182,8 @@ SteppedTo rest none more env = more ≡ false
 SteppedTo rest (some vs) more env = (more ≡ true) × (env ≡ digits_of vs ++ rest)
 
 module _ (t : Traces) (k g : ℕ) (firsts lasts : List ℕ) (count : ℕ)
-    (begins : (i : ℕ) → i < count → get_or firsts i 0 ≡ lowest_code (kind_number (kind_at k g i)))
-    (ends : (i : ℕ) → i < count → get_or lasts i 0 ≡ lowest_code (kind_number (kind_at k g i)) + kind_size t (kind_at k g i) - 1) where
+    (begins : (i : ℕ) → i < count → get_or firsts i 0 ≡ lowest_code (kind_at k g i))
+    (ends : (i : ℕ) → i < count → get_or lasts i 0 ≡ lowest_code (kind_at k g i) + kind_size t (kind_at k g i) - 1) where
   -- one digit more after some
   module _ (c : ℕ) (h : c < count) (us : List Value) (v : Value) (l : length us ≡ c) (is_in : T (in_kind t (kind_at k g c) v)) (rest : List ℕ) where
     abbrev κ : Kind
@@ -200,7 +202,7 @@ module _ (t : Traces) (k g : ℕ) (firsts lasts : List ℕ) (count : ℕ)
     put w = rw long at (set-append_seam (digits_of us) number rest w)
 
     goes_up : ltb number (get_or lasts c 0) ≡ ltb (digit_of v + 1) (kind_size t κ)
-    goes_up = rw (ends c h, number_in t κ v is_in) (up_test (lowest_code (kind_number κ)) (digit_of v) (kind_size t κ) (kind_pos t κ))
+    goes_up = rw (ends c h, number_in t κ v is_in) (up_test (lowest_code κ) (digit_of v) (kind_size t κ) (kind_pos t κ))
 
     reset : (o : Option (List Value)) (more : Bool) (env : List ℕ) → SteppedTo (get_or firsts c 0 ∷ rest) o more env → SteppedTo rest (before κ o) more env
     reset none more env s = s
@@ -263,7 +265,7 @@ module _ (signature count : ℕ) (n : Lengths) (few : count ≤ most_params) whe
   whole : signature ≡ signature_of k g
   whole = omega arith
 
-  kind_there : (i : ℕ) → i < 5 → kind_in signature i ≡ kind_number (kind_at k g i)
+  kind_there : (i : ℕ) → i < 5 → kind_in signature i ≡ (kind_at k g i)
   kind_there i h = ap (λ (s : ℕ). kind_in s i) whole ∙ kind_in_lem k g i byte h
 
   radix_there : (i : ℕ) → i < 5 → radix_of (kind_in signature i) n ≡ kind_size t (kind_at k g i)
@@ -272,14 +274,14 @@ module _ (signature count : ℕ) (n : Lengths) (few : count ≤ most_params) whe
   pub size-kinds : size_from signature n 0 count ≡ configurations signature count n
   size-kinds = ap (λ (s : ℕ). size_from s n 0 count) whole ∙ size_from_lem (lengths_long n) k g 0 count byte (omega arith)
 
-  begins : (i : ℕ) → i < count → get_or (firsts_of signature count) i 0 ≡ lowest_code (kind_number (kind_at k g i))
+  begins : (i : ℕ) → i < count → get_or (firsts_of signature count) i 0 ≡ lowest_code (kind_at k g i)
   begins zero h = rw (lt-leb count 0 h, kind_there 0 (omega arith))
   begins (suc zero) h = rw (lt-leb count 1 h, kind_there 1 (omega arith))
   begins (suc (suc zero)) h = rw (lt-leb count 2 h, kind_there 2 (omega arith))
   begins (suc (suc (suc zero))) h = rw (lt-leb count 3 h, kind_there 3 (omega arith))
   begins (suc (suc (suc (suc i)))) h = absurd (omega arith)
 
-  ends : (i : ℕ) → i < count → get_or (lasts_of signature count n) i 0 ≡ lowest_code (kind_number (kind_at k g i)) + kind_size t (kind_at k g i) - 1
+  ends : (i : ℕ) → i < count → get_or (lasts_of signature count n) i 0 ≡ lowest_code (kind_at k g i) + kind_size t (kind_at k g i) - 1
   ends zero h = rw (lt-leb count 0 h, ← radix_there 0 (omega arith), kind_there 0 (omega arith))
   ends (suc zero) h = rw (lt-leb count 1 h, ← radix_there 1 (omega arith), kind_there 1 (omega arith))
   ends (suc (suc zero)) h = rw (lt-leb count 2 h, ← radix_there 2 (omega arith), kind_there 2 (omega arith))

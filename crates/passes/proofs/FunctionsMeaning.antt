@@ -21,11 +21,12 @@ use lib.ListN.{length, get_elem?, get_or, set, take, length-set, length-replicat
 use lib.Seq.{take-length, get_or-set_same, get_or-set_other}
 use Rattle.trace.specs.{bit_of}
 use Rattle.semantics.specs.declared.Sort.{Sort}
-use Rattle.semantics.specs.Language.{Kind, is_list, Function, Program, Traces}
+use Rattle.semantics.specs.declared.Kind.{Kind}
+use Rattle.semantics.specs.Language.{is_list, Function, Program, Traces}
 use Rattle.semantics.specs.Numbering.{kind_size, size, cells}
 use Rattle.semantics.specs.Verdicts.{main_cell}
 use Rattle.syntax.specs.Limits.{most_params}
-use Rattle.syntax.specs.Kinds.{kind_number, signature_of, kind_in}
+use Rattle.syntax.specs.Kinds.{signature_of, kind_in}
 use Rattle.rule.specs.Form.{kinds_byte, guard_byte, Accepted}
 use Rattle.rule.specs.Reading.{kind_at, kinds_from}
 use Rattle.rule.specs.Outline.{outline_of}
@@ -33,7 +34,7 @@ use Rattle.rule.specs.Walk.{at_most_four}
 use Rattle.rule.proofs.KindBytes.{flags_below, kinds_back}
 use Rattle.rule.proofs.Expressions.{place-below}
 use Rattle.rule.proofs.OutlineMeaning.{there, params_at, kinds_at, guards_at}
-use Rattle.rule.proofs.WalkMeaning.{kind_number_lem, at_most_four_lem, kind_there}
+use Rattle.rule.proofs.WalkMeaning.{at_most_four_lem, kind_there}
 use Rattle.codes.specs.declared.Lengths.{Lengths}
 use Rattle.codes.specs.{Short, radix_of}
 use Rattle.codes.proofs.CodeMeaning.{LengthsOf, radix_means}
@@ -64,9 +65,9 @@ signature_high k g (suc (suc (suc zero))) b h = let e : (k + 256 * g) / 2048 % 2
 signature_high k g (suc (suc (suc (suc zero)))) b h = let e : (k + 256 * g) / 4096 % 2 ≡ g / 16 % 2 = omega arith in rw e
 signature_high k g (suc (suc (suc (suc (suc i))))) b h = absurd (omega arith)
 
-pub kind_in_lem : (k g i : ℕ) → k < 256 → i < 5 → kind_in (signature_of k g) i ≡ kind_number (kind_at k g i)
+pub kind_in_lem : (k g i : ℕ) → k < 256 → i < 5 → kind_in (signature_of k g) i ≡ (kind_at k g i)
 unfolding kind_in
-kind_in_lem k g i b h = rw (signature_low k g i h, signature_high k g i b h) (sym (kind_number_lem k g i))
+kind_in_lem k g i b h = rw (signature_low k g i h, signature_high k g i b h) refl
 
 abbrev pub signature_for : List Kind → Kind → ℕ
 signature_for params result = signature_of (kinds_byte params result) (guard_byte params result)
@@ -75,7 +76,7 @@ module _ (params : List Kind) (result : Kind) (few : length params ≤ most_para
   pub byte_small : kinds_byte params result < 256
   byte_small = omega (arith, flags_below is_list params result few)
 
-  pub param_kind : (i : ℕ) (κ : Kind) → get_elem? params i ≡ some κ → kind_in (signature_for params result) i ≡ kind_number κ
+  pub param_kind : (i : ℕ) (κ : Kind) → get_elem? params i ≡ some κ → kind_in (signature_for params result) i ≡ κ
   param_kind i κ e =
       let k = kinds_byte params result in
       let g = guard_byte params result in
@@ -83,17 +84,17 @@ module _ (params : List Kind) (result : Kind) (few : length params ≤ most_para
       let here : get_elem? params i ≡ some (kind_at k g i) =
       rw ((kinds_back params result few).0, zero-add i) at (kind_there k g 0 (length params) i below) in
       let same : kind_at k g i ≡ κ = cc in
-      kind_in_lem k g i byte_small (omega (arith, below)) ∙ ap kind_number same
+      kind_in_lem k g i byte_small (omega (arith, below)) ∙ same
 
-  pub result_kind_lem : kind_in (signature_for params result) 4 ≡ kind_number result
+  pub result_kind_lem : kind_in (signature_for params result) 4 ≡ result
   result_kind_lem =
-      kind_in_lem (kinds_byte params result) (guard_byte params result) 4 byte_small (omega arith) ∙ ap kind_number (kinds_back params result few).1
+      kind_in_lem (kinds_byte params result) (guard_byte params result) 4 byte_small (omega arith) ∙ (kinds_back params result few).1
 
 -- ---- Sizes
 
 module _ {t : Traces} {n : Lengths} (ls : LengthsOf t n) where
   pub radix_in : (k g i : ℕ) → k < 256 → i < 5 → radix_of (kind_in (signature_of k g) i) n ≡ kind_size t (kind_at k g i)
-  radix_in k g i b h = ap (λ (x : ℕ). radix_of x n) (kind_in_lem k g i b h) ∙ radix_means ls (kind_at k g i)
+  radix_in k g i b h = ap (λ (x : Kind). radix_of x n) (kind_in_lem k g i b h) ∙ radix_means ls (kind_at k g i)
 
   -- the size of the parameters that bits from i on say
   pub size_from_lem : (k g i m : ℕ) → k < 256 → i + m ≤ 5 → size_from (signature_of k g) n i m ≡ size t (kinds_from k g i m)

@@ -18,7 +18,9 @@ use lib.ListN.{length, get_elem?, get_or, drop, length-append, length-drop}
 use lib.Seq.{take-length}
 use borrow.Author.Tests.{ne_eqb}
 use Rattle.semantics.specs.declared.Outcome.{Outcome}
-use Rattle.semantics.specs.Language.{Kind, Function, Program, Traces, only, WellKinded}
+use Rattle.semantics.specs.declared.Kind.{Kind}
+use Rattle.semantics.specs.declared.Demand.TheVariants.{Only as only}
+use Rattle.semantics.specs.Language.{Function, Program, Traces, WellKinded}
 use Rattle.semantics.specs.Numbering.{size, values_at, cells}
 use Rattle.semantics.specs.Cells.{content_of, of_kind, outcome_in}
 use Rattle.semantics.specs.Bodies.{body_outcome}

@@ -1,11 +1,9 @@
 -- Laws of passes, one for each way through the code:
---   put_none, put_some                       what a body's outcome leaves in its cell
 --   visit_kept, visit_open                   the visit of a decided cell, and of an undecided one
 --   Visited                                  some configurations of a function have been visited
 --   visited_start, visited_more              before the first, and after one more
 --   visited_row                              a row more
 --   stores_le                                how many outcomes are stored at most
---   short-ram, short-guard,
 --   short_true, true_short                   the test that traces can have such lengths
 --   ready-fits, fits-ready                   the test that a function's cells lie within the table
 --   Covering                                 some functions have been visited, or passed over
@@ -13,14 +11,14 @@
 use mathlib.Core.Path.{◌≡◌, refl, sym, ap, ◌∙◌}
 use mathlib.Core.Bool.{Bool, true, false, cond}
 use mathlib.Core.List.{List, ◌++◌}
-use Prim.Native.Nat.{ℕ, zero, suc, ◌+◌, ◌-◌, ◌*◌, ◌<◌, ◌≤◌, min}
-use native.Mathlib.Nat.{add-zero, add-suc, zero-add, min-eq_left, min-eq_right}
+use Prim.Native.Nat.{ℕ, zero, suc, ◌+◌, ◌*◌, ◌≤◌, min}
+use native.Mathlib.Nat.{add-zero, add-suc, zero-add, min-eq_left}
 use native.Mathlib.Numerals.{add-one}
+use Rattle.std.proofs.lemmas.List.{drop_min}
 use native.Mathlib.Omega.{arith}
 use lib.Dec.{ltb, leb, eqb}
-use lib.Seq.{drop-length}
-use lib.ListN.{length, get_or, set, drop, replicate, length-set, drop_of_length-le}
-use borrow.Author.Tests.{ltb-true, le-ltb, leb-true, leb-false, lt-ltb, le-leb, lt-leb, eq-eqb, ne_eqb}
+use lib.ListN.{length, get_or, set, drop, replicate, length-set}
+use borrow.Author.Tests.{ltb-true, leb-true, lt-ltb, le-leb, eq-eqb, ne_eqb}
 use Rattle.trace.specs.{most_samples}
 use Rattle.syntax.specs.Limits.{most_functions, most_depth}
 use Rattle.rule.proofs.Tests.{both}
@@ -60,14 +58,6 @@ module _ (S : Setup) (n : Lengths) (g body : ℕ) (T : List ℕ) (i : ℕ) where
   length-visit : length (visit_at S n g body T i) ≡ length T
   unfolding visit_at
   length-visit = length-put (stored_at S n g body T i)
-
--- what is stored, and how much that is
-module _ (T : List ℕ) (cell : ℕ) {c : ℕ} where
-  pub put_none : c ≡ 0 → (T ≡ put_in T cell c) × (0 ≡ one_unless c)
-  put_none e = (simp (eq-eqb _ _ e), simp (eq-eqb _ _ e))
-
-  pub put_some : (c ≡ 0 → ⊥) → (set T cell (cell_code c) ≡ put_in T cell c) × (1 ≡ one_unless c)
-  put_some z = (simp (ne_eqb _ _ z), simp (ne_eqb _ _ z))
 
 one_le : (c : ℕ) → one_unless c ≤ 1
 one_le c = go (eqb c 0)
@@ -160,13 +150,6 @@ visited_row {S} {n} {g} {body} {T₀} {base = base} width u v s = record {
 pub short_true : {n : Lengths} → Short n → short n ≡ true
 short_true {n} h = simp (le-leb n.ram most_samples h.0, le-leb n.guard most_samples h.1)
 
--- the first of its parts, as the code tests it
-pub short-ram : (n : Lengths) → most_samples < n.ram → false ≡ short n
-short-ram n h = simp (lt-leb n.ram most_samples h)
-
-pub short-guard : (n : Lengths) → n.ram ≤ most_samples → leb n.guard most_samples ≡ short n
-short-guard n h = simp (le-leb n.ram most_samples h)
-
 pub true_short : {n : Lengths} → short n ≡ true → Short n
 true_short {n} e =
     let h = both (leb n.ram most_samples) _ e in
@@ -183,38 +166,6 @@ module _ {functions : List ℕ} {n : Lengths} {g len : ℕ} where
       let first = both (ltb g most_functions) _ e in
       let second = both (short n) _ first.1 in
       record { below = ltb-true _ _ first.0; samples = true_short second.0; within = leb-true _ _ second.1 }
-
--- the last of its parts, as the code tests it
-within-left : (first size len : ℕ) → first ≤ len → leb size (len - first) ≡ leb (first + size) len
-within-left first size len h = go (leb size (len - first)) refl
-  where
-    go : (b : Bool) → leb size (len - first) ≡ b → b ≡ leb (first + size) len
-    go true e = let l = leb-true size (len - first) e in sym (le-leb (first + size) len (omega arith))
-    go false e = let l = leb-false size (len - first) e in sym (lt-leb (first + size) len (omega arith))
-
-module _ (functions : List ℕ) (n : Lengths) (g len : ℕ) where
-  pub fits_beyond : most_functions ≤ g → false ≡ fits functions n g len
-  unfolding fits
-  fits_beyond h = simp (le-ltb g most_functions h)
-
-  module _ (below : g < most_functions) where
-    pub fits-long : short n ≡ false → false ≡ fits functions n g len
-    unfolding fits
-    fits-long h = simp (lt-ltb g most_functions below, h)
-
-    module _ (samples : Short n) where
-      pub fits_past : len < first_of functions g → false ≡ fits functions n g len
-      unfolding fits
-      fits_past h =
-          let far = lt-leb (first_of functions g + size_of functions n g) len (omega arith) in
-          simp (lt-ltb g most_functions below, short_true samples, far)
-
-      pub fits-left : first_of functions g ≤ len → {size : ℕ} → size ≡ size_of functions n g
-          → leb size (len - first_of functions g) ≡ fits functions n g len
-      unfolding fits
-      fits-left h e =
-          simp (e, lt-ltb g most_functions below, short_true samples)
-          (within-left (first_of functions g) (size_of functions n g) len h)
 
 -- ---- All functions
 
@@ -268,11 +219,6 @@ module _ {S : Setup} {n : Lengths} {starts T₀ T : List ℕ} {stored g : ℕ} (
     same = u.same;
   }
 
-  pub covering_end : {count : ℕ} → g ≤ count → count ≤ g → (T ≡ pass_visits S n starts count T₀) × (stored ≡ pass_counts S n starts count T₀)
-  covering_end {count} h k =
-      let all : g ≡ count = omega (arith, h, k) in
-      (rw all at u.cells, rw all at u.count)
-
 pub length-pass : (S : Setup) (n : Lengths) (starts T : List ℕ) (g : ℕ) → length (pass_visits S n starts g T) ≡ length T
 unfolding pass_visits
 length-pass S n starts T zero = refl
@@ -290,22 +236,10 @@ length-pass S n starts T (suc g) = go (fits S.functions n g (length T)) (length-
 
 -- ---- Clearing
 
-drop_min : (needed : ℕ) (T : List ℕ) → drop (min needed (length T)) T ≡ drop needed T
-drop_min needed T = go (leb needed (length T)) refl
-  where
-    go : (b : Bool) → leb needed (length T) ≡ b → drop (min needed (length T)) T ≡ drop needed T
-    go true e = ap (λ (k : ℕ). drop k T) (min-eq_left (leb-true needed (length T) e))
-    go false e =
-        let h : length T ≤ needed = omega (arith, leb-false needed (length T) e) in
-        ap (λ (k : ℕ). drop k T) (min-eq_right h) ∙ drop-length T ∙ sym (drop_of_length-le T h)
-
--- what the loop leaves
-pub cleared-whole : (needed : ℕ) (T : List ℕ) (i : ℕ) {last : ℕ} {T' : List ℕ} → last ≡ min needed (length T) → i ≤ last → last ≤ i
-    → T' ≡ replicate i 0 ++ drop i T → T' ≡ cleared needed T
+-- the first of them written over
+pub cleared-whole : (needed last : ℕ) (T : List ℕ) {cells : List ℕ} → last ≡ min needed (length T) → cells ≡ replicate last 0 → cells ++ drop last T ≡ cleared needed T
 unfolding cleared
-cleared-whole needed T i l h k e =
-    let all : i ≡ min needed (length T) = omega arith in
-    e ∙ rw (all, drop_min needed T)
+cleared-whole needed last T l e = rw (e, l, drop_min needed T)
 
 -- a table that has so many cells
 pub cleared-within : (needed : ℕ) (T : List ℕ) → needed ≤ length T → cleared needed T ≡ replicate needed 0 ++ drop needed T

@@ -1,5 +1,5 @@
 -- Laws of setting up, for each loop of the code its start, a turn, its end:
---   shortened-short, short-shortened                   lengths cut to those that traces can have
+--   shortened-short                                    lengths cut to those that traces can have
 --   Product, size-start, size-more, size_fits,
 --   size-whole                                         the product of the sizes of parameters, from the last down
 --   size_nonzero                                       every function has a configuration
@@ -9,11 +9,12 @@
 use mathlib.Core.Path.{◌≡◌, refl, ap, ◌∙◌}
 use mathlib.Core.List.{List, [], ◌++◌, append_assoc}
 use Prim.Native.Nat.{ℕ, zero, suc, ◌+◌, ◌-◌, ◌*◌, ◌^◌, ◌<◌, ◌≤◌, min}
-use native.Mathlib.Nat.{mul-pos, mul-le-mul, pow-succ', pow-le-pow_right, min-eq_left}
+use native.Mathlib.Nat.{mul_comm, mul-pos, mul-le-mul, pow-succ', pow-le-pow_right, min-eq_left}
 use native.Mathlib.Numerals.{add-one, sub-one}
 use native.Mathlib.Omega.{arith}
 use lib.ListN.{length, get_or, set, take, drop, replicate, length-take, replicate-append-replicate}
 use lib.Seq.{take-length, take_at, drop_at, drop-drop, paste}
+use Rattle.semantics.specs.declared.Kind.{Kind}
 use Rattle.syntax.specs.Limits.{most_functions, most_params}
 use Rattle.syntax.specs.Kinds.{kind_in}
 use Rattle.rule.specs.Form.{padded}
@@ -30,9 +31,6 @@ use Rattle.passes.specs.Mirror.{Heads, signature_at, total_before, functions_upt
 pub shortened-short : (n : Lengths) → Short n → shortened n ≡ n
 shortened-short n h = rw (min-eq_left h.0, min-eq_left h.1)
 
-pub short-shortened : {m : Lengths} (n : Lengths) → m ≡ shortened n → Short m
-short-shortened n e = rw e (omega arith, omega arith)
-
 -- ---- Sizes
 
 module _ (signature : ℕ) (n : Lengths) (count : ℕ) where
@@ -48,9 +46,9 @@ module _ (signature : ℕ) (n : Lengths) (count : ℕ) where
       let e : count - count ≡ 0 = omega arith in
       record { below = omega arith; size = rw e; bound = rw e (omega arith) }
 
-  pub size-more : (i : ℕ) {product radix kind : ℕ} → Product product i → 0 < i → Short n
+  pub size-more : (i : ℕ) {product radix : ℕ} {kind : Kind} → Product product i → 0 < i → Short n
       → kind ≡ kind_in signature (i - 1) → radix ≡ radix_of kind n
-      → Product (radix * product) (i - 1)
+      → Product (product * radix) (i - 1)
   unfolding size_from
   size-more zero u h few b r = absurd (omega arith)
   size-more (suc i) {product} {radix} {kind} u h few b r =
@@ -58,8 +56,8 @@ module _ (signature : ℕ) (n : Lengths) (count : ℕ) where
       let top : radix ≤ most_values = rw r (radix_small kind n few) in
       record {
         below = omega (arith, u.below);
-        size = simp (sub-one, k, add-one, r, b, u.size);
-        bound = simp (sub-one, k, pow-succ') (mul-le-mul top u.bound);
+        size = rw (mul_comm product radix) (simp (sub-one, k, add-one, r, b, u.size));
+        bound = simp (sub-one, k, pow-succ', mul_comm product radix) (mul-le-mul top u.bound);
       }
 
   pub size_fits : (i : ℕ) {product : ℕ} → Product product i → count ≤ most_params → product ≤ most_configurations

@@ -19,11 +19,12 @@ use Rattle.trace.proofs.Packing.{length-samples, samples_at}
 use Rattle.semantics.specs.declared.Contact.{Contact}
 use Rattle.semantics.specs.declared.Contact.TheVariants.{Ram, Guard}
 use Rattle.semantics.specs.declared.Sort.{Sort}
-use Rattle.semantics.specs.Language.{Kind, Function, Program, Traces}
+use Rattle.semantics.specs.declared.Kind.{Kind}
+use Rattle.semantics.specs.Language.{Function, Program, Traces}
 use Rattle.semantics.specs.Numbering.{cells, most_cells}
 use Rattle.semantics.specs.Cells.{false_code, true_code}
 use Rattle.syntax.specs.Limits.{most_params, most_body}
-use Rattle.syntax.specs.Kinds.{kind_number, kind_in}
+use Rattle.syntax.specs.Kinds.{kind_in}
 use Rattle.rule.specs.Form.{padded, Accepted}
 use Rattle.rule.specs.Outline.{outline_of}
 use Rattle.rule.proofs.Padded.{length-padded, get_or-padded}
@@ -141,15 +142,15 @@ module _ {bytes : List ℕ} {s : Sort} {P : Program} (a : Accepted bytes s P) (r
     pub count_is : count_of F g ≡ length f.params
     count_is = count_means a t n (lengths_are ram guard n) g f e
 
-    result_is : kind_in (signature_in F g) 4 ≡ kind_number f.result
+    result_is : kind_in (signature_in F g) 4 ≡ f.result
     result_is = rw signature_is (result_kind_lem f.params f.result (a.fits g f e).params)
 
-    function_is : function_at S.words g ≡ function_word (first_cell t P g) (kind_number f.result) n
+    function_is : function_at S.words g ≡ function_word (first_cell t P g) f.result n
     function_is =
         function_filled bytes (outline_of s P).params F (length P) n (replicate most_words 0) zeros a.short a.few g (place-below P g f e)
         ∙ rw (first_is, result_is)
 
-    param_is : (i : ℕ) (κ : Kind) → get_elem? f.params i ≡ some κ → param_at S.words g i ≡ kind_word (kind_number κ) n
+    param_is : (i : ℕ) (κ : Kind) → get_elem? f.params i ≡ some κ → param_at S.words g i ≡ kind_word κ n
     param_is i κ h =
         let narrow = (a.fits g f e).params in
         let below : i < most_params = omega (arith, place-below f.params i κ h) in

@@ -8,7 +8,9 @@ use Prim.Native.Nat.{ℕ, zero, suc, ◌+◌, ◌*◌, ◌/◌, ◌%◌, ◌<◌
 use native.Mathlib.Omega.{arith}
 use lib.ListN.{length, get_elem?, get_or, drop, length-replicate}
 use Rattle.semantics.specs.declared.Contact.TheVariants.{Ram, Guard}
-use Rattle.semantics.specs.Language.{Kind, truth, list, Traces, Value, given}
+use Rattle.semantics.specs.declared.Kind.{Kind}
+use Rattle.semantics.specs.declared.Kind.TheVariants.{Truth as truth, List as list}
+use Rattle.semantics.specs.Language.{Traces, Value, given}
 use Rattle.semantics.specs.Numbering.{kind_size, size, values_at}
 use Rattle.semantics.proofs.Numbering.{values_in_lem}
 use Rattle.syntax.specs.Limits.{most_params}

@@ -1,6 +1,7 @@
 -- Document 02, request 04: the parameter values of the cell that a pass comes to, kept as digits in an array.
 use Rattle.std.specs.Prelude.{ℕ, ◌+◌, ◌-◌, ◌/◌, ◌%◌, ◌<◌, ◌≤◌, ◌≡◌, false, cond, List, [], ◌∷◌, ◌++◌, leb, length, get_or, set, drop, replicate}
-use Rattle.semantics.specs.Language.{Kind, Traces, Value, given}
+use Rattle.semantics.specs.declared.Kind.{Kind}
+use Rattle.semantics.specs.Language.{Traces, Value, given}
 use Rattle.semantics.specs.Numbering.{size, values_at}
 use Rattle.syntax.specs.Limits.{most_params}
 use Rattle.syntax.specs.Kinds.{kind_in}

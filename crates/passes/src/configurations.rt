@@ -21,10 +21,8 @@ pub fn size(signature: u64, count: u64, n: Lengths) -> u64
     ensures { (result ≡ size_from signature n 0 count) × (result ≤ most_configurations) }
 {
     let mut product: u64 = 1;
-    let mut i = count;
-    while 0 < i {
-        i -= 1;
-        product = codes::radix(syntax::kind_at(signature, i), n) * product;
+    for i in (0..count).rev() {
+        product *= codes::radix(syntax::kind_at(signature, i), n);
     }
     product
 }
@@ -33,7 +31,7 @@ pub fn size(signature: u64, count: u64, n: Lengths) -> u64
 pub fn last(count: u64) -> u64
     ensures { result ≡ count - 1 }
 {
-    if count == 0 { 0 } else { count - 1 }
+    count.saturating_sub(1)
 }
 
 // The first values of a function's parameters, by their working numbers; 0 for an absent one.
@@ -58,7 +56,7 @@ fn first_value(signature: u64, count: u64, i: u64) -> u16
     codes::lowest(syntax::kind_at(signature, i)) as u16
 }
 
-// Their last values.
+// Their last values. Apart from firsts, which asks nothing of lengths: one function of both would take the value as a closure.
 pub fn lasts(signature: u64, count: u64, n: Lengths) -> [u16; 4]
     requires { Short n }
     ensures { result ≡ lasts_of signature count n }
@@ -103,7 +101,7 @@ pub fn row_width(first: u16, last: u16) -> u64
     requires { first ≤ last }
     ensures { result ≡ last + 1 - first }
 {
-    last as u64 + 1 - first as u64
+    u64::from(last) + 1 - u64::from(first)
 }
 
 // Steps the parameter values from the last cell of a row to the first of the next, as digits: the last parameter, which stands at `slot`, goes
@@ -114,33 +112,20 @@ pub fn step(firsts: &[u16; 4], lasts: &[u16; 4], slot: usize, env: &mut [u16; 6]
     ensures digits { env.new ≡ stepped firsts.now lasts.now slot env.old }
     ensures next { StepsCells firsts.now lasts.now slot env.old (get_or lasts.now slot 0) env.new (get_or firsts.now slot 0) }
 {
-    let mut i = slot;
-    while 0 < i {
-        i -= 1;
+    for i in (0..slot).rev() {
         if env[i] < lasts[i] {
-            env[i] = up(env[i], lasts[i]);
+            env[i] += 1;
             return;
         }
         env[i] = firsts[i];
     }
 }
 
-// A digit that has not reached its last value goes up by one.
-fn up(digit: u16, last: u16) -> u16
-    requires { digit < last }
-    ensures { result ≡ digit + 1 }
-{
-    digit + 1
-}
-
 // Whether traces can have such lengths.
 pub fn short_lengths(n: Lengths) -> bool
     ensures { result ≡ short n }
 {
-    if trace::MOST_SAMPLES < n.ram as usize {
-        return false;
-    }
-    n.guard as usize <= trace::MOST_SAMPLES
+    usize::from(n.ram.max(n.guard)) <= trace::MOST_SAMPLES
 }
 
 // Lengths cut to such.
@@ -148,7 +133,7 @@ pub fn shortened_lengths(n: Lengths) -> Lengths
     ensures { result ≡ shortened n }
 {
     Lengths {
-        ram: codes::smaller(n.ram as usize, trace::MOST_SAMPLES) as u16,
-        guard: codes::smaller(n.guard as usize, trace::MOST_SAMPLES) as u16,
+        ram: n.ram.min(trace::MOST_SAMPLES as u16),
+        guard: n.guard.min(trace::MOST_SAMPLES as u16),
     }
 }

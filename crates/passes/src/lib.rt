@@ -32,24 +32,28 @@ pub fn pass(
     ensures stored { result ≡ pass_counts (setup words.now functions.now traces.now) n starts.now count table.old }
 {
     let len = table.len();
-    let last = count as usize;
+    let given = Given {
+        words,
+        traces,
+        functions,
+        n,
+    };
     let mut stored: usize = 0;
-    let mut g: usize = 0;
-    while g < last {
+    for g in 0..usize::from(count) {
         if lies_within(functions, n, g, len) {
             let body = body_of(words, starts[g]);
-            stored += pass_function(words, traces, functions, table, n, g, body);
+            stored += pass_function(&given, table, g, body);
         }
-        g += 1;
     }
     stored
 }
 
 // Whether the cells of a function lie within a table of so many.
+#[tactic(auto, unfolding(crate::specs::Mirror::fits))]
 fn lies_within(functions: &[u64; 96], n: Lengths, g: usize, len: usize) -> bool
     ensures { result ≡ fits functions.now n g len }
 {
-    if (syntax::MOST_FUNCTIONS as usize) <= g {
+    if usize::from(syntax::MOST_FUNCTIONS) <= g {
         return false;
     }
     if !configurations::short_lengths(n) {
@@ -68,162 +72,146 @@ fn lies_within(functions: &[u64; 96], n: Lengths, g: usize, len: usize) -> bool
 pub fn body_of(words: &[u64; WORDS], start: u16) -> u64
     ensures { result ≡ body_at words.now start }
 {
-    words[(start % 4096) as usize]
+    words[usize::from(start % 4096)]
+}
+
+// What a pass does not change: the words and the functions of an evaluation, the bytes of both traces and their lengths.
+#[derive(Clone, Copy)]
+struct Given<'a> {
+    words: &'a [u64; WORDS],
+    traces: &'a [u8; codes::TRACES_BYTES],
+    functions: &'a [u64; 96],
+    n: Lengths,
+}
+
+// A function that a pass visits: its number, its word and that of its body, its first cell, the place of its last parameter, the
+// first value of that and how many it has.
+#[derive(Clone, Copy)]
+struct Function {
+    g: usize,
+    word: u64,
+    body: u64,
+    first: u64,
+    slot: usize,
+    low: u16,
+    width: u64,
 }
 
 // Visits the cells of a function in rising order, row by row: how many outcomes were stored. In a row only the last parameter's value
 // differs; the others step from row to row.
-fn pass_function(
-    words: &[u64; WORDS],
-    traces: &[u8; codes::TRACES_BYTES],
-    functions: &[u64; 96],
-    table: &mut [u16],
-    n: Lengths,
-    g: usize,
-    body: u64,
-) -> usize
-    requires { Ready functions.now n g (length table.old) }
-    ensures cells { table.new ≡ visits_from (setup words.now functions.now traces.now) n g body 0 (size_of functions.now n g) table.old }
-    ensures stored { (result ≡ stores_from (setup words.now functions.now traces.now) n g body 0 (size_of functions.now n g) table.old) × (result ≤ most_configurations) }
+fn pass_function(given: &Given, table: &mut [u16], g: usize, body: u64) -> usize
+    requires { Ready given.now.functions.now given.now.n g (length table.old) }
+    ensures cells { table.new ≡ visits_from (setup given.now.words.now given.now.functions.now given.now.traces.now) given.now.n g body 0 (size_of given.now.functions.now given.now.n g) table.old }
+    ensures stored { (result ≡ stores_from (setup given.now.words.now given.now.functions.now given.now.traces.now) given.now.n g body 0 (size_of given.now.functions.now given.now.n g) table.old) × (result ≤ most_configurations) }
 {
+    let functions = given.functions;
+    let n = given.n;
     let signature = functions[32 + g];
     let count = configurations::count(functions, g);
     let size = configurations::size(signature, count, n);
     let slot = configurations::last(count) as usize;
     let firsts = configurations::firsts(signature, count);
     let lasts = configurations::lasts(signature, count, n);
-    let function = words[FUNCTIONS + STRIDE * g];
-    let first = functions[g];
     let low = firsts[slot];
     let width = configurations::row_width(low, lasts[slot]);
+    let word = given.words[FUNCTIONS + STRIDE * g];
+    let first = functions[g];
+    let function = Function {
+        g,
+        word,
+        body,
+        first,
+        slot,
+        low,
+        width,
+    };
     let mut env = configurations::first_values(&firsts, n);
     let mut stored: usize = 0;
     let mut index: u64 = 0;
+    // no range: how many rows there are would take a division
     while index < size {
-        stored = row(
-            words,
-            traces,
-            functions,
-            table,
-            &mut env,
-            n,
-            g,
-            function,
-            body,
-            slot,
-            index,
-            first + index,
-            low,
-            width,
-            stored,
-        );
+        stored = row(given, &function, table, &mut env, index, stored);
         configurations::step(&firsts, &lasts, slot, &mut env);
         index += width;
     }
     stored
 }
 
-// Visits the cells of a row, from configuration `index` on, whose cell is `start`: how many outcomes are then stored, if so many were before. `env`
-// has the values of all parameters but the last, whose first value is `low`; the others follow it.
+// Visits the cells of a row, from configuration `index` on: how many outcomes are then stored, if so many were before. `env` has the
+// values of all parameters but the last, whose values follow one another.
 fn row(
-    words: &[u64; WORDS],
-    traces: &[u8; codes::TRACES_BYTES],
-    functions: &[u64; 96],
+    given: &Given,
+    function: &Function,
     table: &mut [u16],
     env: &mut [u16; 6],
-    n: Lengths,
-    g: usize,
-    function: u64,
-    body: u64,
-    slot: usize,
     index: u64,
-    start: u64,
-    low: u16,
-    width: u64,
     before: usize,
 ) -> usize
-    requires at_cell { AtCell (signature_in functions.now g) (count_of functions.now g) n index env.old low }
-    requires row_ready { RowReady words.now functions.now n g (length table.old) function slot low width }
-    requires start_value { (start ≡ first_of functions.now g + index) × (before ≤ index) }
-    ensures cells { table.new ≡ visits_from (setup words.now functions.now traces.now) n g body index width table.old }
-    ensures env { SameOthers (last_of functions.now g) env.old env.new }
-    ensures stored { result ≡ before + stores_from (setup words.now functions.now traces.now) n g body index width table.old }
+    requires at_cell { AtCell (signature_in given.now.functions.now function.now.g) (count_of given.now.functions.now function.now.g) given.now.n index env.old function.now.low }
+    requires row_ready { RowReady given.now.words.now given.now.functions.now given.now.n function.now.g (length table.old) function.now.word function.now.slot function.now.low function.now.width }
+    requires start_value { (function.now.first ≡ first_of given.now.functions.now function.now.g) × (before ≤ index) }
+    ensures cells { table.new ≡ visits_from (setup given.now.words.now given.now.functions.now given.now.traces.now) given.now.n function.now.g function.now.body index function.now.width table.old }
+    ensures env { SameOthers (last_of given.now.functions.now function.now.g) env.old env.new }
+    ensures stored { result ≡ before + stores_from (setup given.now.words.now given.now.functions.now given.now.traces.now) given.now.n function.now.g function.now.body index function.now.width table.old }
 {
     let mut stored = before;
-    let mut d: u64 = 0;
-    while d < width {
+    for d in 0..function.width {
         stored = visit(
-            words,
-            traces,
-            functions,
+            given,
+            function,
             table,
             env,
-            n,
-            g,
-            function,
-            body,
-            slot,
             index + d,
-            (start + d) as usize,
-            low + d as u16,
+            function.low + d as u16,
             stored,
         );
-        d += 1;
     }
     stored
 }
 
-// Visits a cell: how many outcomes are then stored, if so many were. `functions`, `n`, `g` and `index` say which cell it is. `env` has the
-// values of all parameters but the last, whose value is `digit`; it is put in if the cell is undecided. A decided cell costs a load and two tests.
+// Visits the cell of configuration `index`: how many outcomes are then stored, if so many were. `env` has the values of all parameters
+// but the last, whose value is `digit`; it is put in if the cell is undecided. A decided cell costs a load and two tests.
 fn visit(
-    words: &[u64; WORDS],
-    traces: &[u8; codes::TRACES_BYTES],
-    functions: &[u64; 96],
+    given: &Given,
+    function: &Function,
     table: &mut [u16],
     env: &mut [u16; 6],
-    n: Lengths,
-    g: usize,
-    function: u64,
-    body: u64,
-    slot: usize,
     index: u64,
-    cell: usize,
     digit: u16,
     stored: usize,
 ) -> usize
-    requires at_cell { AtCell (signature_in functions.now g) (count_of functions.now g) n index env.old digit }
-    requires ready { Ready functions.now n g (length table.old) × (stored ≤ most_configurations) }
-    requires function_value { (function ≡ function_at words.now g) × (slot ≡ last_of functions.now g) × (cell ≡ first_of functions.now g + index) }
-    ensures cells { table.new ≡ visit_at (setup words.now functions.now traces.now) n g body table.old index }
-    ensures env { SameOthers (last_of functions.now g) env.old env.new }
-    ensures stored { result ≡ stored + one_unless (stored_at (setup words.now functions.now traces.now) n g body table.old index) }
+    requires at_cell { AtCell (signature_in given.now.functions.now function.now.g) (count_of given.now.functions.now function.now.g) given.now.n index env.old digit }
+    requires ready { Ready given.now.functions.now given.now.n function.now.g (length table.old) × (stored ≤ most_configurations) }
+    requires function_value { (function.now.word ≡ function_at given.now.words.now function.now.g) × (function.now.slot ≡ last_of given.now.functions.now function.now.g) × (function.now.first ≡ first_of given.now.functions.now function.now.g) }
+    ensures cells { table.new ≡ visit_at (setup given.now.words.now given.now.functions.now given.now.traces.now) given.now.n function.now.g function.now.body table.old index }
+    ensures env { SameOthers (last_of given.now.functions.now function.now.g) env.old env.new }
+    ensures stored { result ≡ stored + one_unless (stored_at (setup given.now.words.now given.now.functions.now given.now.traces.now) given.now.n function.now.g function.now.body table.old index) }
 {
-    if functions::held(function, table[cell]) != codes::UNDECIDED {
+    let cell = (function.first + index) as usize;
+    if functions::held(function.word, table[cell]) != codes::UNDECIDED {
         return stored;
     }
-    fill(words, traces, table, env, body, slot, digit, cell, stored)
+    fill(given, function, table, env, digit, cell, stored)
 }
 
 // Puts a value in, takes the body on the values and stores what is decided in a cell: how many outcomes are then
 // stored, if so many were.
 fn fill(
-    words: &[u64; WORDS],
-    traces: &[u8; codes::TRACES_BYTES],
+    given: &Given,
+    function: &Function,
     table: &mut [u16],
     env: &mut [u16; 6],
-    body: u64,
-    slot: usize,
     value: u16,
     cell: usize,
     stored: usize,
 ) -> usize
-    requires { (slot < 6) × (cell < length table.old) × (stored ≤ most_configurations) }
-    ensures cells { table.new ≡ put_in table.old cell (eval_word words.now traces.now table.old (set env.old slot value) most_depth body) }
-    ensures env { env.new ≡ set env.old slot value }
-    ensures stored { result ≡ stored + one_unless (eval_word words.now traces.now table.old (set env.old slot value) most_depth body) }
+    requires { (function.now.slot < 6) × (cell < length table.old) × (stored ≤ most_configurations) }
+    ensures cells { table.new ≡ put_in table.old cell (eval_word given.now.words.now given.now.traces.now table.old (set env.old function.now.slot value) most_depth function.now.body) }
+    ensures env { env.new ≡ set env.old function.now.slot value }
+    ensures stored { result ≡ stored + one_unless (eval_word given.now.words.now given.now.traces.now table.old (set env.old function.now.slot value) most_depth function.now.body) }
 {
-    env[slot] = value;
-    let outcome = bodies::outcome(words, traces, table, env, body);
+    env[function.slot] = value;
+    let outcome = bodies::outcome(given.words, given.traces, table, env, function.body);
     if outcome == codes::UNDECIDED {
         return stored;
     }
@@ -235,12 +223,8 @@ fn fill(
 pub fn clear(table: &mut [u16], needed: usize)
     ensures { table.new ≡ cleared needed table.old }
 {
-    let last = codes::smaller(needed, table.len());
-    let mut i = 0;
-    while i < last {
-        table[i] = codes::UNDECIDED;
-        i += 1;
-    }
+    let last = needed.min(table.len());
+    table[..last].fill(codes::UNDECIDED);
 }
 
 // Main's cell on the whole traces: the last of function 0. Lengths above 4,095 count as 4,095.

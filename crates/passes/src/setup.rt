@@ -23,16 +23,12 @@ fn copy(trace: &[u8], at: usize, bytes: &mut [u8])
     requires { at + most_trace_bytes ≤ length bytes.old }
     ensures { bytes.new ≡ paste bytes.old at (take most_trace_bytes trace.now) (length (take most_trace_bytes trace.now)) }
 {
-    let count = codes::smaller(codes::TRACE_BYTES, trace.len());
-    let mut i = 0;
-    while i < count {
-        bytes[at + i] = trace[i];
-        i += 1;
-    }
+    let count = codes::TRACE_BYTES.min(trace.len());
+    bytes[at..at + count].copy_from_slice(&trace[..count]);
 }
 
 // The functions of a program: first cells from 0 on, signatures from 32 on, counts from 64 on; and the
-// cells of all.
+// cells of all. One array, since the contracts of pass, run and decoding's fill speak of its places.
 #[derive(Clone, Copy)]
 pub struct Cells {
     pub functions: [u64; 96],
@@ -54,15 +50,12 @@ pub fn cells_of(
     let mut functions = [0u64; 96];
     let mut total: u64 = 0;
     let lengths = configurations::shortened_lengths(n);
-    let last = codes::smaller(count as usize, syntax::MOST_FUNCTIONS as usize);
-    let mut g: usize = 0;
-    while g < last {
+    for g in 0..usize::from(count.min(syntax::MOST_FUNCTIONS)) {
         let signature = signature(kinds[g], guards[g]);
         functions[g] = total;
         functions[32 + g] = signature;
-        functions[64 + g] = wide(params[g]);
+        functions[64 + g] = u64::from(params[g]);
         total += configurations::size(signature, rule::at_most_four(params[g]), lengths);
-        g += 1;
     }
     Cells { functions, total }
 }
@@ -71,12 +64,5 @@ pub fn cells_of(
 fn signature(kinds: u8, guard: u8) -> u64
     ensures { result ≡ signature_of kinds guard }
 {
-    wide(kinds) + 256 * wide(guard)
-}
-
-// A byte as a number.
-fn wide(byte: u8) -> u64
-    ensures { (result ≡ byte) × (result < 256) }
-{
-    byte as u64
+    u64::from(kinds) + 256 * u64::from(guard)
 }

@@ -1,14 +1,11 @@
 -- 'What is refused' of documents 01 and 02: the refusals of evaluating, 5 to 17 with 25 and 26, 20, 23 and 21.
-use Rattle.std.specs.Prelude.{ℕ, Bool, not, ◌||◌, List, eqb, ltb, length}
+use Rattle.std.specs.Prelude.{ℕ, Bool, not, ◌||◌, List, eqb, ltb, length, Some, Err}
 use Rattle.refusal.specs.declared.Refusal.TheVariants.{TraceLength, TableShort, PaddingSet}
-use Rattle.refusal.specs.declared.Check.{Check}
-use Rattle.refusal.specs.declared.Check.TheVariants as check
-use Rattle.refusal.specs.{refuse_if, ◌then◌}
+use Rattle.refusal.specs.{Check, refuse_if, ◌then◌}
 use Rattle.trace.specs.{most_samples, bytes_for, padding_set}
 use Rattle.semantics.specs.Language.{Program}
 use Rattle.semantics.specs.Handed.{Handed, samples_of}
 use Rattle.semantics.specs.Numbering.{cells, most_cells}
-use Rattle.rule.specs.declared.Sorts.TheVariants.{Only}
 use Rattle.rule.specs.Reading.{Parsed, got, refused, program_for}
 
 -- 20: 'a lent trace has n above 4,095 or not n / 8 rounded up bytes'
@@ -33,7 +30,7 @@ table_check needed lent = refuse_if (ltb lent needed || ltb most_cells needed) T
 -- 5 to 17 with 25 and 26, 20, 23, 21, in this order; the program is what its bytes are read as, of the sort that the traces say
 abbrev pub check_read : Parsed Program → Handed → ℕ → Check
 check_read (got P rest) h lent = trace_check h then table_check (cells (samples_of h) P) lent
-check_read (refused f) h lent = check.Refused f
+check_read (refused f) h lent = Err f
 
 unfoldable pub evaluate_check : List ℕ → Handed → ℕ → Check
-evaluate_check program h lent = check_read (program_for (Only h.sort) program) h lent
+evaluate_check program h lent = check_read (program_for (Some h.sort) program) h lent

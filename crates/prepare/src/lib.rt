@@ -1,130 +1,163 @@
 // What an evaluation begins with: its checks, and where the functions and their cells stand.
 #![tactic(auto)]
 
-ghost use Rattle.std.specs.Prelude.{◌≡◌, ◌||◌, replicate};
-ghost use Rattle.refusal.specs.declared.Check.TheVariants as Check;
-ghost use Rattle.refusal.specs.{◌then◌};
-ghost use Rattle.semantics.specs.Handed.{handed};
-ghost use Rattle.rule.specs.declared.Sorts.TheVariants as Sorts;
-ghost use Rattle.rule.specs.Reading.{program_sort, program_for, program_check};
+ghost use Rattle.std.specs.Prelude.{◌≡◌, Some, IfOk};
+ghost use Rattle.refusal.specs.{told};
+ghost use Rattle.semantics.specs.Handed.{one_trace, two_traces};
+ghost use Rattle.rule.specs.Reading.{program_sort, program_for};
 ghost use Rattle.rule.specs.Outline.{outline_from};
-ghost use Rattle.prepare.specs.Checks.{length_check, lengths_check, padding_check, table_check, evaluate_check};
-ghost use Rattle.prepare.specs.Settled.{Settled, lengths_of, functions_by, total_by};
+ghost use Rattle.decoding.specs.Decoding.{words_filled};
+ghost use Rattle.passes.specs.Mirror.{traces_of};
+ghost use Rattle.prepare.specs.Checks.{length_check, table_check, evaluate_check};
+ghost use Rattle.prepare.specs.Settled.{Settled, handed_in, places_check, PlacedBy};
 
 use codes::Lengths;
+use decoding::functions::WORDS;
 use passes::setup;
 use passes::setup::Cells;
-use refusal::{Check, Refusal};
-use rule::{Outline, Sorts};
+use refusal::Refusal;
+use rule::Outline;
 use semantics::Sort;
 
-// The check of an evaluation, and where the functions and their cells stand. Of a program that is refused the outline is that of
-// no functions; where it or a trace's length is refused there are no cells.
+// The traces that an operation is handed, packed, with their numbers of samples; they say the sort of the program. With one trace
+// `guard` has no bytes and `m` is 0.
 #[derive(Clone, Copy)]
-pub struct Prepared {
-    pub check: Check,
+pub struct Handed<'a> {
+    pub sort: Sort,
+    pub ram: &'a [u8],
+    pub n: usize,
+    pub guard: &'a [u8],
+    pub m: usize,
+}
+
+impl<'a> Handed<'a> {
+    // A trace of n samples, that of the ram contact alone.
+    pub fn one(trace: &'a [u8], n: usize) -> Handed<'a>
+        ensures { handed_in result ≡ one_trace trace.now n }
+    {
+        Handed {
+            sort: Sort::One,
+            ram: trace,
+            n,
+            guard: &[],
+            m: 0,
+        }
+    }
+
+    // The traces of both contacts, of n samples of the ram and m of the guard.
+    pub fn two(ram: &'a [u8], n: usize, guard: &'a [u8], m: usize) -> Handed<'a>
+        ensures { handed_in result ≡ two_traces ram.now n guard.now m }
+    {
+        Handed {
+            sort: Sort::Two,
+            ram,
+            n,
+            guard,
+            m,
+        }
+    }
+}
+
+// A program and its traces, where its functions stand, the lengths of the traces, and where the cells stand.
+#[derive(Clone, Copy)]
+pub struct Prepared<'a> {
+    pub program: &'a [u8],
+    pub handed: Handed<'a>,
     pub outline: Outline,
+    pub lengths: Lengths,
     pub cells: Cells,
 }
 
-// Checks the program, of a sort, the traces and the room for the cells, in this order. With one trace `guard` has no bytes and `m` is 0.
-pub fn prepare(
-    program: &[u8],
-    sort: Sort,
-    ram: &[u8],
-    n: usize,
-    guard: &[u8],
-    m: usize,
+impl Prepared<'_> {
+    // Writes the words of the program.
+    pub fn fill(&self, words: &mut [u64; WORDS])
+        ensures { words.new ≡ words_filled self.now.program.now self.now.outline.params self.now.cells.functions self.now.outline.functions self.now.lengths words.old }
+    {
+        decoding::program::fill(
+            self.program,
+            &self.outline.params,
+            &self.cells.functions,
+            self.outline.functions,
+            self.lengths,
+            words,
+        );
+    }
+
+    // The bytes of the traces.
+    pub fn traces(&self) -> [u8; codes::TRACES_BYTES]
+        ensures { result ≡ traces_of self.now.handed.ram.now self.now.handed.guard.now }
+    {
+        setup::traces_of(self.handed.ram, self.handed.guard)
+    }
+}
+
+// Checks the program, of the sort that the traces say, the traces and the room for the cells, in this order.
+pub fn prepare<'a>(
+    program: &'a [u8],
+    handed: Handed<'a>,
     lent: usize,
-) -> Prepared
-    ensures check { result.check ≡ evaluate_check program.now (handed sort ram.now n guard.now m) lent }
-    ensures settled { result.check ≡ Check.Passed → Settled program.now (handed sort ram.now n guard.now m) result.outline result.cells lent }
-    ensures outline { result.outline ≡ outline_from (program_sort program.now) (program_for (Sorts.Only sort) program.now) }
-    ensures cells { (result.cells.functions ≡ functions_by (program_check (Sorts.Only sort) program.now then lengths_check (handed sort ram.now n guard.now m)) result.outline (lengths_of (handed sort ram.now n guard.now m))) × (result.cells.total ≡ total_by (program_check (Sorts.Only sort) program.now then lengths_check (handed sort ram.now n guard.now m)) result.outline (lengths_of (handed sort ram.now n guard.now m))) }
+) -> Result<Prepared<'a>, Refusal>
+    ensures check { told result ≡ evaluate_check program.now (handed_in handed.entry) lent }
+    ensures settled { IfOk result (λ p. Settled program.now (handed_in handed.entry) p.outline p.cells lent) }
+    ensures outline { IfOk result (λ p. p.outline ≡ outline_from (program_sort program.now) (program_for (Some handed.entry.sort) program.now)) }
+    ensures cells { IfOk result (λ p. PlacedBy program.now p.outline (handed_in handed.entry) p) }
 {
-    let checked = rule::check_sorts(program, Sorts::Only(sort));
-    let check = checked.check;
-    let outline = checked.outline;
-    match check {
-        Check::Refused(refusal) => refused(refusal, outline),
-        Check::Passed => match lengths_check(n, ram.len(), m, guard.len()) {
-            Check::Refused(refusal) => refused(refusal, outline),
-            Check::Passed => {
-                let params = outline.params;
-                let kinds = outline.kinds;
-                let guards = outline.guards;
-                let lengths = Lengths {
-                    ram: n as u16,
-                    guard: m as u16,
-                };
-                let cells = setup::cells_of(outline.functions, &params, &kinds, &guards, lengths);
-                Prepared {
-                    check: padding_then_table(
-                        trace::padding_set(ram, n),
-                        trace::padding_set(guard, m),
-                        cells.total,
-                        lent,
-                    ),
-                    outline,
-                    cells,
-                }
-            }
-        },
-    }
+    let outline = rule::check_sorts(program, Some(handed.sort))?;
+    places(program, outline, handed, lent)
 }
 
-// A refusal, with no cells.
-fn refused(refusal: Refusal, outline: Outline) -> Prepared
-    ensures { (result.check ≡ Check.Refused refusal) × (result.outline ≡ outline) × (result.cells.functions ≡ replicate 96 0) × (result.cells.total ≡ 0) }
+// The same, once the program is checked: the traces, the room, and where the cells stand by where the functions do.
+pub fn places<'a>(
+    program: &'a [u8],
+    outline: Outline,
+    handed: Handed<'a>,
+    lent: usize,
+) -> Result<Prepared<'a>, Refusal>
+    ensures check { told result ≡ places_check outline (handed_in handed.entry) lent }
+    ensures cells { IfOk result (λ p. PlacedBy program.now outline (handed_in handed.entry) p) }
 {
-    Prepared {
-        check: Check::Refused(refusal),
+    length_check(handed.n, handed.ram.len())?;
+    length_check(handed.m, handed.guard.len())?;
+    if trace::padding_set(handed.ram, handed.n) || trace::padding_set(handed.guard, handed.m) {
+        return Err(Refusal::PaddingSet);
+    }
+    let lengths = Lengths {
+        ram: handed.n as u16,
+        guard: handed.m as u16,
+    };
+    let cells = setup::cells_of(
+        outline.functions,
+        &outline.params,
+        &outline.kinds,
+        &outline.guards,
+        lengths,
+    );
+    table_check(cells.total, lent)?;
+    Ok(Prepared {
+        program,
+        handed,
         outline,
-        cells: Cells {
-            functions: [0u64; 96],
-            total: 0,
-        },
-    }
-}
-
-// 20, of both traces.
-fn lengths_check(n: usize, ram: usize, m: usize, guard: usize) -> Check
-    ensures { result ≡ (length_check n ram then length_check m guard) }
-{
-    match length_check(n, ram) {
-        Check::Refused(refusal) => Check::Refused(refusal),
-        Check::Passed => length_check(m, guard),
-    }
+        lengths,
+        cells,
+    })
 }
 
 // 20.
-fn length_check(n: usize, bytes: usize) -> Check
+fn length_check(n: usize, bytes: usize) -> Result<(), Refusal>
     ensures { result ≡ length_check n bytes }
 {
-    if trace::MOST_SAMPLES < n {
-        return Check::Refused(Refusal::TraceLength);
+    if trace::MOST_SAMPLES < n || bytes != trace::bytes_for(n) {
+        return Err(Refusal::TraceLength);
     }
-    if bytes != trace::bytes_for(n) {
-        return Check::Refused(Refusal::TraceLength);
-    }
-    Check::Passed
+    Ok(())
 }
 
-// 23, then 21.
-fn padding_then_table(ram: bool, guard: bool, needed: u64, lent: usize) -> Check
-    ensures { result ≡ (padding_check (ram || guard) then table_check needed lent) }
+// 21.
+fn table_check(needed: u64, lent: usize) -> Result<(), Refusal>
+    ensures { result ≡ table_check needed lent }
 {
-    if ram {
-        return Check::Refused(Refusal::PaddingSet);
+    if (lent as u64) < needed || semantics::MOST_CELLS < needed {
+        return Err(Refusal::TableShort);
     }
-    if guard {
-        return Check::Refused(Refusal::PaddingSet);
-    }
-    if (lent as u64) < needed {
-        return Check::Refused(Refusal::TableShort);
-    }
-    if semantics::MOST_CELLS < needed {
-        return Check::Refused(Refusal::TableShort);
-    }
-    Check::Passed
+    Ok(())
 }

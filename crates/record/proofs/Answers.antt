@@ -1,9 +1,8 @@
 -- What reading and checking answer, one law for each way through the code:
 --   evaluation-refused, evaluation_passed     the check behind an answer of evaluating
 --   sort-held                                the sort of a record's program
---   located-refused, program-refused,
---   program_passed                           reading
---   read_owed                                its answer, and that in numbers
+--   located-refused, judged_read             reading
+--   read_numbers                             its answer in numbers
 --   record_read                              bytes that are read have passed the checks, and the parts are theirs; in any release
 --   parts_within                             the parts lie within the bytes
 use mathlib.Core.Path.{◌≡◌, refl, sym, ap, ◌∙◌}
@@ -11,24 +10,17 @@ use mathlib.Core.Bool.{Bool, true, false, cond}
 use mathlib.Core.List.{List}
 use Prim.Native.Nat.{ℕ}
 use Rattle.refusal.specs.declared.Refusal.{Refusal}
-use Rattle.refusal.specs.declared.Check.{Check}
-use Rattle.refusal.specs.declared.Check.TheVariants.{Passed, Refused}
-use Rattle.refusal.specs.{answer_if}
+use Rattle.std.specs.Prelude.{Result, Ok, Err, Some, None}
+use Rattle.refusal.specs.{Check, passed, told, answer_if}
 use Rattle.refusal.proofs.Checks.{then_passed}
 use Rattle.semantics.specs.declared.Verdict.{Verdict}
 use Rattle.semantics.specs.declared.Sort.TheVariants.{One, Two}
 use Rattle.semantics.specs.Handed.{Handed}
-use Rattle.rule.specs.declared.Sorts.TheVariants.{Only}
 use Rattle.rule.specs.Reading.{program_check}
-use Rattle.evaluate.specs.declared.Evaluated.{Evaluated}
-use Rattle.evaluate.specs.declared.Evaluated.TheVariants as evaluated
 use Rattle.prepare.specs.Checks.{evaluate_check}
 use Rattle.evaluate.specs.Evaluate.{answer_by, evaluation}
 use Rattle.layout.specs.declared.Parts.{Parts}
-use Rattle.layout.specs.declared.Reading.{Reading}
-use Rattle.layout.specs.declared.Reading.TheVariants as read
 use Rattle.layout.specs.declared.Span.{Span}
-use Rattle.layout.specs.declared.GuardTrace.TheVariants as guard
 use Rattle.layout.specs.declared.Format.{Format}
 use Rattle.layout.specs.Form.{formats, knows, format_sort}
 use Rattle.layout.specs.Trailer.{part_of, guard_span, guard_samples_in, guard_place, format_in, format_held, trailer_check_with, parts_for, parts_with, parts_in, read_by, located}
@@ -41,29 +33,25 @@ use Rattle.record.specs.Steps.{sort_held}
 
 -- ---- Answers of evaluating
 
-abbrev verdict_check : Evaluated → Check
-verdict_check (evaluated.Verdict v) = Passed
-verdict_check (evaluated.Refused f) = Refused f
+abbrev verdict_or : Verdict → Result Verdict Refusal → Verdict
+verdict_or w (Ok v) = v
+verdict_or w (Err f) = w
 
-abbrev verdict_or : Verdict → Evaluated → Verdict
-verdict_or w (evaluated.Verdict v) = v
-verdict_or w (evaluated.Refused f) = w
+told_by : (c : Check) (v : Verdict) → told (answer_by c v) ≡ c
+told_by (Ok tt) v = refl
+told_by (Err f) v = refl
 
-verdict_check_lem : (c : Check) (v : Verdict) → verdict_check (answer_by c v) ≡ c
-verdict_check_lem Passed v = refl
-verdict_check_lem (Refused f) v = refl
-
-module _ (program : List ℕ) (h : Handed) (lent : ℕ) {r : Evaluated} (e : r ≡ evaluation program h lent) where
-  pub evaluation-refused : {f : Refusal} → r ≡ evaluated.Refused f → evaluate_check program h lent ≡ Refused f
+module _ (program : List ℕ) (h : Handed) (lent : ℕ) {r : Result Verdict Refusal} (e : r ≡ evaluation program h lent) where
+  pub evaluation-refused : {f : Refusal} → r ≡ Err f → evaluate_check program h lent ≡ Err f
   unfolding evaluation
-  evaluation-refused q = sym (verdict_check_lem _ (worked_out program h)) ∙ ap verdict_check (sym e ∙ q)
+  evaluation-refused q = sym (told_by _ (worked_out program h)) ∙ ap told (sym e ∙ q)
 
-  pub evaluation_passed : {w : Verdict} → r ≡ evaluated.Verdict w → (evaluate_check program h lent ≡ Passed) × (worked_out program h ≡ w)
+  pub evaluation_passed : {w : Verdict} → r ≡ Ok w → (evaluate_check program h lent ≡ passed) × (worked_out program h ≡ w)
   unfolding evaluation
   evaluation_passed {w} q =
-      let passed : evaluate_check program h lent ≡ Passed = sym (verdict_check_lem _ (worked_out program h)) ∙ ap verdict_check (sym e ∙ q) in
-      let told : answer_by Passed (worked_out program h) ≡ evaluated.Verdict w = rw passed at (sym e ∙ q) in
-      (passed, ap (verdict_or w) told)
+      let all : evaluate_check program h lent ≡ passed = sym (told_by _ (worked_out program h)) ∙ ap told (sym e ∙ q) in
+      let both : answer_by passed (worked_out program h) ≡ Ok w = rw all at (sym e ∙ q) in
+      (all, ap (verdict_or w) both)
 
 -- ---- Reading
 
@@ -72,39 +60,29 @@ pub sort-held : (F : Format) (bytes : List ℕ) → sort_held (parts_for F bytes
 unfolding parts_for guard_place
 sort-held F bytes = go F.guarded (guard_span F bytes) (guard_samples_in F bytes)
   where
-    go : (b : Bool) (s : Span) (m : ℕ) → sort_held (cond b (guard.At s m) guard.Absent) ≡ cond b Two One
+    go : (b : Bool) (s : Span) (m : ℕ) → sort_held (cond b (Some (record { span = s; samples = m })) None) ≡ cond b Two One
     go true s m = refl
     go false s m = refl
 
-module _ (bytes : List ℕ) {r : Reading} (l : r ≡ located bytes) where
-  pub located-refused : {f : Refusal} → r ≡ read.Refused f → read.Refused f ≡ reading bytes
+module _ (bytes : List ℕ) {r : Result Parts Refusal} (l : r ≡ located bytes) where
+  pub located-refused : {f : Refusal} → r ≡ Err f → Err f ≡ reading bytes
   unfolding reading_with read_check_with
   located-refused e = rw (located-refusal bytes l e)
 
-  module _ {p : Parts} (e : r ≡ read.Record p) where
-    -- the program's check is left
-    check_left : read_check bytes ≡ program_check (Only (sort_held p.guard)) (part_of bytes p.program)
-    unfolding read_check_with
-    check_left = rw (located_passed bytes l e, ← sort-held (format_held formats bytes) bytes, parts_are bytes l e)
+  -- the program's check is left
+  pub judged_read : {p : Parts} → r ≡ Ok p → read_by (program_check (Some (sort_held p.guard)) (part_of bytes p.program)) p ≡ reading bytes
+  unfolding reading_with read_check_with
+  judged_read e = rw (located_passed bytes l e, ← sort-held (format_held formats bytes) bytes, ← parts_are bytes l e)
 
-    pub program-refused : {f : Refusal} → program_check (Only (sort_held p.guard)) (part_of bytes p.program) ≡ Refused f
-        → read.Refused f ≡ reading bytes
-    unfolding reading_with
-    program-refused c = rw (check_left ∙ c)
-
-    pub program_passed : program_check (Only (sort_held p.guard)) (part_of bytes p.program) ≡ Passed → read.Record p ≡ reading bytes
-    unfolding reading_with
-    program_passed c = rw (check_left ∙ c, parts_are bytes l e)
-
--- all that is promised of an answer: which it is, and its numbers
-pub read_owed : (bytes : List ℕ) {r : Reading} → r ≡ reading bytes
-    → (r ≡ reading bytes) × (read_answer r ≡ answer_if (read_check bytes) (parts_values (parts_in bytes)))
+-- the answer in numbers
+pub read_numbers : (bytes : List ℕ) {r : Result Parts Refusal} → r ≡ reading bytes
+    → read_answer r ≡ answer_if (read_check bytes) (parts_values (parts_in bytes))
 unfolding reading_with
-read_owed bytes e = (e, ap read_answer e ∙ go (read_check bytes))
+read_numbers bytes e = ap read_answer e ∙ go (read_check bytes)
   where
     go : (k : Check) → read_answer (read_by k (parts_in bytes)) ≡ answer_if k (parts_values (parts_in bytes))
-    go Passed = refl
-    go (Refused f) = refl
+    go (Ok tt) = refl
+    go (Err f) = refl
 
 -- ---- Bytes that are read
 
@@ -112,10 +90,10 @@ read_owed bytes e = (e, ap read_answer e ∙ go (read_check bytes))
 pub record Read (known : List Format) (bytes : List ℕ) (p : Parts) : Type 0 where
   pub listed : knows known (format_in bytes) ≡ true
   pub fields : Fields (format_held known bytes) bytes
-  pub program : program_check (Only (format_sort (format_held known bytes))) (part_of bytes (parts_with known bytes).program) ≡ Passed
+  pub program : program_check (Some (format_sort (format_held known bytes))) (part_of bytes (parts_with known bytes).program) ≡ passed
   pub parts : parts_with known bytes ≡ p
 
-pub record_read : (known : List Format) (bytes : List ℕ) (p : Parts) → reading_with known bytes ≡ read.Record p → Read known bytes p
+pub record_read : (known : List Format) (bytes : List ℕ) (p : Parts) → reading_with known bytes ≡ Ok p → Read known bytes p
 unfolding reading_with read_check_with
 record_read known bytes p e =
     let r = read_passed (read_check_with known bytes) (parts_with known bytes) p e in
@@ -123,5 +101,5 @@ record_read known bytes p e =
     let f = passed_fields known bytes c.0 in
     record { listed = f.0; fields = f.1; program = c.1; parts = r.1 }
 
-pub parts_within : (bytes : List ℕ) (p : Parts) → reading bytes ≡ read.Record p → Within bytes p
+pub parts_within : (bytes : List ℕ) (p : Parts) → reading bytes ≡ Ok p → Within bytes p
 parts_within bytes p e = let r = record_read formats bytes p e in rw r.parts at (within (format_held formats bytes) bytes r.fields)

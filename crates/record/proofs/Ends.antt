@@ -13,10 +13,10 @@ use lib.ListN.{length, take, length-append}
 use lib.Seq.{length-take-le}
 use Rattle.rule.specs.Form.{AreBytes}
 use Rattle.layout.specs.declared.Parts.{Parts}
-use Rattle.layout.specs.declared.Reading.TheVariants as read
+use Rattle.std.specs.Prelude.{Ok, Some, None}
+use Rattle.std.specs.Prelude as std
 use Rattle.layout.specs.declared.Format.{Format}
 use Rattle.layout.specs.declared.GuardTrace.{GuardTrace}
-use Rattle.layout.specs.declared.GuardTrace.TheVariants as guard
 use Rattle.layout.specs.Trailer.{format_in, format_held, parts_for, parts_in, guard_at, contents_at}
 use Rattle.layout.specs.Form.{formats, format_for, format_of, trailer_bytes, layout}
 use Rattle.layout.proofs.FormatLaws.{ByParts, numbered_by_parts}
@@ -36,7 +36,7 @@ format-told : (bytes : List ℕ) → AreBytes bytes → (F : Format) → ByParts
 unfolding parts_for
 format-told bytes are F by f = ap (λ (G : Format). G.number) (sym (format_back F bytes are f by))
 
-pub ends_in : (bytes : List ℕ) (p : Parts) → AreBytes bytes → reading bytes ≡ read.Record p → EndsIn bytes p
+pub ends_in : (bytes : List ℕ) (p : Parts) → AreBytes bytes → reading bytes ≡ Ok p → EndsIn bytes p
 ends_in bytes p are e =
     let r = record_read formats bytes p e in
     let F = format_held formats bytes in
@@ -50,17 +50,17 @@ ends_in bytes p are e =
     rw r.parts at found
 
 -- six of program, five of verdict and pass count, and the trailer
-abbrev pub least_bytes : GuardTrace → ℕ
-least_bytes guard.Absent = 19
-least_bytes (guard.At s m) = 21
+abbrev pub least_bytes : std.Option GuardTrace → ℕ
+least_bytes None = 19
+least_bytes (Some g) = 21
 
-least : (bytes : List ℕ) (g : GuardTrace) (label : Option (List ℕ)) → least_bytes g ≡ 11 + trailer_bytes (format_for (guard_at bytes g) label)
+least : (bytes : List ℕ) (g : std.Option GuardTrace) (label : Option (List ℕ)) → least_bytes g ≡ 11 + trailer_bytes (format_for (guard_at bytes g) label)
 unfolding trailer_bytes
-least bytes guard.Absent (some label) = refl
-least bytes guard.Absent none = refl
-least bytes (guard.At s m) label = refl
+least bytes None (some label) = refl
+least bytes None none = refl
+least bytes (Some g) label = refl
 
-pub record_least : (bytes : List ℕ) (p : Parts) → AreBytes bytes → reading bytes ≡ read.Record p
+pub record_least : (bytes : List ℕ) (p : Parts) → AreBytes bytes → reading bytes ≡ Ok p
     → p.program.start + least_bytes p.guard ≤ length bytes
 record_least bytes p are e =
     let w = ends_in bytes p are e in
@@ -80,15 +80,15 @@ record_least bytes p are e =
 pub accepts_exactly : (bytes : List ℕ) → AreBytes bytes → AcceptsExactly bytes
 accepts_exactly bytes are k = (ended, found)
   where
-    ended : (p : Parts) × (reading bytes ≡ read.Record p) × (p.format ≡ k) → EndInRecord k bytes
+    ended : (p : Parts) × (reading bytes ≡ Ok p) × (p.format ≡ k) → EndInRecord k bytes
     ended (p, e, f) =
         let w = ends_in bytes p are e in
         (take p.program.start bytes, contents_at bytes p, w.stated, sym w.format ∙ f, w.whole)
 
-    found : EndInRecord k bytes → (p : Parts) × (reading bytes ≡ read.Record p) × (p.format ≡ k)
+    found : EndInRecord k bytes → (p : Parts) × (reading bytes ≡ Ok p) × (p.format ≡ k)
     found (before, c, s, f, e) = let r = read_back before c s in (r.parts, rw e r.accepted, r.format ∙ f)
 
-pub own-layout : (bytes : List ℕ) (p : Parts) → AreBytes bytes → reading bytes ≡ read.Record p → own_bytes bytes p ≡ layout (contents_at bytes p)
+pub own-layout : (bytes : List ℕ) (p : Parts) → AreBytes bytes → reading bytes ≡ Ok p → own_bytes bytes p ≡ layout (contents_at bytes p)
 own-layout bytes p are e =
     let r = record_read formats bytes p e in
     rw r.parts at (from_program (format_held formats bytes) bytes are r.fields (numbered_by_parts (format_in bytes) r.listed))

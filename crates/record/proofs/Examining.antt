@@ -15,9 +15,9 @@ use Prim.Native.Nat.{ℕ, ◌≤◌}
 use native.Mathlib.Omega.{arith}
 use lib.ListN.{length}
 use Rattle.refusal.specs.declared.Refusal.{Refusal}
-use Rattle.refusal.specs.declared.Check.{Check}
-use Rattle.refusal.specs.declared.Check.TheVariants.{Passed, Refused}
-use Rattle.refusal.specs.{◌then◌, answer_if}
+use Rattle.std.specs.Prelude.{Result, Ok, Err, Some, None}
+use Rattle.std.specs.Prelude as std
+use Rattle.refusal.specs.{Check, passed, ◌then◌, answer_if}
 use Rattle.trace.specs.{most_samples, bytes_for, samples, padding_set, digit}
 use Rattle.semantics.specs.declared.Sort.{Sort}
 use Rattle.semantics.specs.declared.Verdict.{Verdict}
@@ -25,22 +25,16 @@ use Rattle.semantics.specs.Language.{Program}
 use Rattle.semantics.specs.Handed.{Handed, handed, samples_of}
 use Rattle.semantics.specs.Numbering.{cells}
 use Rattle.semantics.specs.Verdicts.{verdict_of, verdict_values}
-use Rattle.rule.specs.declared.Sorts.TheVariants.{Only}
 use Rattle.rule.specs.Reading.{Parsed, got, program_for, program_check, program_of, check_from}
 use Rattle.rule.specs.Reading as reading
 use Rattle.rule.proofs.Programs.{read_both}
-use Rattle.evaluate.specs.declared.Evaluated.{Evaluated}
-use Rattle.evaluate.specs.declared.Evaluated.TheVariants as evaluated
 use Rattle.prepare.specs.Checks.{trace_check, table_check, check_read, evaluate_check}
 use Rattle.prepare.proofs.Preparing.{trace-passes}
 use Rattle.evaluate.specs.Evaluate.{evaluation, table_evaluated}
 use Rattle.evaluate.proofs.Evaluating.{evaluation_decides}
 use Rattle.layout.specs.declared.Parts.{Parts}
-use Rattle.layout.specs.declared.Reading.{Reading}
-use Rattle.layout.specs.declared.Reading.TheVariants as read
 use Rattle.layout.specs.declared.Format.{Format}
 use Rattle.layout.specs.declared.GuardTrace.{GuardTrace}
-use Rattle.layout.specs.declared.GuardTrace.TheVariants as guard
 use Rattle.layout.specs.Form.{formats, format_sort, Contents, format_for, guard_samples, traces_held}
 use Rattle.layout.specs.Trailer.{part_of, format_held, guard_span, guard_samples_in, guard_place, guard_at, contents_in, trailer_check, parts_for, parts_in, read_by, located}
 use Rattle.layout.proofs.Answers.{located-refusal, located_passed, parts_are}
@@ -51,21 +45,21 @@ use Rattle.record.specs.declared.Examined.{Examined}
 use Rattle.record.specs.Reading.{read_check_with, read_check, reading_with}
 use Rattle.record.specs.Reading.{reading as reading_of}
 use Rattle.record.specs.Checking.{record_check, agrees, compared, checked_by, checking, table_checked, examining, CheckDemand3, compared_in, checked_answer, program_held, check_numbers}
-use Rattle.record.specs.Steps.{sort_held, guard_bytes, guard_held, handed_in, both_refused, refused_by}
+use Rattle.record.specs.Steps.{sort_held, guard_bytes, guard_held, handed_in}
 use Rattle.record.proofs.Answers.{evaluation-refused, evaluation_passed, sort-held}
 use Rattle.refusal.proofs.Checks.{then_passed}
 
 -- ---- The checks
 
 -- evaluating judges the program, then the traces, then the cells
-judged : (program : List ℕ) (h : Handed) (lent : ℕ) → trace_check h ≡ Passed
-    → (program_check (Only h.sort) program then table_check (cells (samples_of h) (program_of program)) lent) ≡ evaluate_check program h lent
+judged : (program : List ℕ) (h : Handed) (lent : ℕ) → trace_check h ≡ passed
+    → (program_check (Some h.sort) program then table_check (cells (samples_of h) (program_of program)) lent) ≡ evaluate_check program h lent
 unfolding evaluate_check program_check
-judged program h lent t = go (program_for (Only h.sort) program) refl
+judged program h lent t = go (program_for (Some h.sort) program) refl
   where
-    go : (p : Parsed Program) → program_for (Only h.sort) program ≡ p
+    go : (p : Parsed Program) → program_for (Some h.sort) program ≡ p
         → (check_from p then table_check (cells (samples_of h) (program_of program)) lent) ≡ check_read p h lent
-    go (got P rest) e = rw (read_both (Only h.sort) program P rest e, t)
+    go (got P rest) e = rw (read_both (Some h.sort) program P rest e, t)
     go (reading.refused f) e = refl
 
 pub handed_in_lem : (bytes : List ℕ) (p : Parts) {s : Sort} {ram guard : List ℕ} {m : ℕ} → s ≡ sort_held p.guard → ram ≡ part_of bytes p.trace
@@ -77,22 +71,22 @@ abbrev traces_in : List ℕ → Handed
 traces_in bytes = handed_in bytes (parts_in bytes)
 
 -- their sort is that of the format of what is held
-sort_means : (bytes : List ℕ) (g : GuardTrace) (label : Option (List ℕ)) → format_sort (format_for (guard_at bytes g) label) ≡ sort_held g
-sort_means bytes guard.Absent (some label) = refl
-sort_means bytes guard.Absent none = refl
-sort_means bytes (guard.At s m) label = refl
+sort_means : (bytes : List ℕ) (g : std.Option GuardTrace) (label : Option (List ℕ)) → format_sort (format_for (guard_at bytes g) label) ≡ sort_held g
+sort_means bytes None (some label) = refl
+sort_means bytes None none = refl
+sort_means bytes (Some g) label = refl
 
 -- the guard's are what the record says of them
-guard_means : (bytes : List ℕ) (g : GuardTrace) → samples (guard_bytes bytes g) (guard_held g) ≡ guard_samples (guard_at bytes g)
+guard_means : (bytes : List ℕ) (g : std.Option GuardTrace) → samples (guard_bytes bytes g) (guard_held g) ≡ guard_samples (guard_at bytes g)
 unfolding samples
-guard_means bytes guard.Absent = refl
-guard_means bytes (guard.At s m) = refl
+guard_means bytes None = refl
+guard_means bytes (Some g) = refl
 
 traces_mean : (bytes : List ℕ) → samples_of (traces_in bytes) ≡ traces_held (contents_in bytes)
 traces_mean bytes = rw (guard_means bytes (parts_in bytes).guard)
 
 -- a guard trace that is there, or none, is not refused
-record GuardFits (bytes : List ℕ) (g : GuardTrace) : Type 0 where
+record GuardFits (bytes : List ℕ) (g : std.Option GuardTrace) : Type 0 where
   few : guard_held g ≤ most_samples
   size : length (guard_bytes bytes g) ≡ bytes_for (guard_held g)
   clean : padding_set (guard_bytes bytes g) (guard_held g) ≡ false
@@ -101,28 +95,28 @@ guard-fits : (F : Format) (bytes : List ℕ) → Fields F bytes → GuardFits by
 unfolding parts_for guard_place bytes_for padding_set
 guard-fits F bytes f = go F.guarded
   where
-    go : (b : Bool) → GuardFits bytes (cond b (guard.At (guard_span F bytes) (guard_samples_in F bytes)) guard.Absent)
+    go : (b : Bool) → GuardFits bytes (cond b (Some (record { span = guard_span F bytes; samples = guard_samples_in F bytes })) None)
     go true = record { few = f.few_guard; size = length_part bytes _ _ (omega (arith, f.room, f.second, f.larger, f.before)); clean = f.clean_guard }
     go false = record { few = omega arith; size = refl; clean = refl }
 
-module _ (bytes : List ℕ) (passed : trailer_check bytes ≡ Passed) where
+module _ (bytes : List ℕ) (good : trailer_check bytes ≡ passed) where
   abbrev c : Contents
   c = contents_in bytes
 
-  traces_fit : trace_check (traces_in bytes) ≡ Passed
+  traces_fit : trace_check (traces_in bytes) ≡ passed
   unfolding parts_for
   traces_fit =
       let F = format_held formats bytes in
-      let f = (passed_fields formats bytes passed).1 in
+      let f = (passed_fields formats bytes good).1 in
       let g = guard-fits F bytes f in
       trace-passes (traces_in bytes)
       (record { few = (f.few, g.few); packed = (length_part bytes _ _ (omega (arith, f.room, f.second, f.larger, f.before)), g.size) })
       (f.clean, g.clean)
 
   -- what reading judges the program by
-  read_by_lem : read_check bytes ≡ program_check (Only (traces_in bytes).sort) c.program
+  read_by_lem : read_check bytes ≡ program_check (Some (traces_in bytes).sort) c.program
   unfolding read_check_with
-  read_by_lem = rw (passed, sort-held (format_held formats bytes) bytes)
+  read_by_lem = rw (good, sort-held (format_held formats bytes) bytes)
 
   pub check_is : (lent : ℕ) → record_check bytes lent ≡ evaluate_check c.program (traces_in bytes) lent
   unfolding record_check
@@ -135,13 +129,13 @@ module _ (bytes : List ℕ) (passed : trailer_check bytes ≡ Passed) where
 -- ---- Answers
 
 -- a trailer that is refused
-pub refused_both : (bytes : List ℕ) (T : List ℕ) {f : Refusal} → trailer_check bytes ≡ Refused f
-    → (both_refused f ≡ examining bytes (length T)) × (T ≡ table_checked bytes T)
+pub refused_both : (bytes : List ℕ) (T : List ℕ) {f : Refusal} → trailer_check bytes ≡ Err f
+    → (record { reading = Err f; checked = Err f } ≡ examining bytes (length T)) × (T ≡ table_checked bytes T)
 unfolding examining reading_with checking table_checked record_check read_check_with
 refused_both bytes T e = (rw e, rw e)
 
 -- an answer in its two parts
-examined : (bytes : List ℕ) (lent : ℕ) {a : Reading} {b : Checked} → a ≡ reading_of bytes → b ≡ checking bytes lent
+examined : (bytes : List ℕ) (lent : ℕ) {a : Result Parts Refusal} {b : Result Checked Refusal} → a ≡ reading_of bytes → b ≡ checking bytes lent
     → record { reading = a; checked = b } ≡ examining bytes lent
 unfolding examining
 examined bytes lent p q = rw (p, q)
@@ -157,56 +151,47 @@ unfolding checking
 checked_is bytes lent e = rw e
 
 -- a record that checking does not refuse is read
-read_first : (bytes : List ℕ) (lent : ℕ) → record_check bytes lent ≡ Passed → read_check bytes ≡ Passed
+read_first : (bytes : List ℕ) (lent : ℕ) → record_check bytes lent ≡ passed → read_check bytes ≡ passed
 unfolding record_check
 read_first bytes lent e = (then_passed (read_check bytes) _ e).0
 
-module _ (bytes T : List ℕ) (passed : trailer_check bytes ≡ Passed) {r : Evaluated}
+module _ (bytes T : List ℕ) (good : trailer_check bytes ≡ passed) {r : Result Verdict Refusal}
     (e : r ≡ evaluation (contents_in bytes).program (traces_in bytes) (length T)) where
   abbrev contents : Contents
   contents = contents_in bytes
 
-  pub verdict-told : {w : Verdict} → r ≡ evaluated.Verdict w
-      → record { reading = read.Record (parts_in bytes); checked = compared (agrees contents.verdict contents.passes w) w }
+  pub verdict-told : {w : Verdict} → r ≡ Ok w
+      → record { reading = Ok (parts_in bytes); checked = Ok (compared (agrees contents.verdict contents.passes w) w) }
       ≡ examining bytes (length T)
   verdict-told {w} q =
       let t = evaluation_passed contents.program (traces_in bytes) (length T) e q in
-      let all : record_check bytes (length T) ≡ Passed = check_is bytes passed (length T) ∙ t.0 in
+      let all : record_check bytes (length T) ≡ passed = check_is bytes good (length T) ∙ t.0 in
       examined bytes (length T) (read_is bytes (read_first bytes (length T) all)) (rw (← t.1, traces_mean bytes) (checked_is bytes (length T) all))
 
   -- the program's check decides whether a record that evaluating refuses is read
-  pub refused-told : {f : Refusal} → r ≡ evaluated.Refused f
-      → refused_by (program_check (Only (traces_in bytes).sort) contents.program) (parts_in bytes) f ≡ examining bytes (length T)
-  unfolding record_check
-  refused-told {f} q = go (program_check (Only (traces_in bytes).sort) contents.program) refl
-    where
-      all : record_check bytes (length T) ≡ Refused f
-      all = check_is bytes passed (length T) ∙ evaluation-refused contents.program (traces_in bytes) (length T) e q
-
-      all_by : {g : Refusal} → program_check (Only (traces_in bytes).sort) contents.program ≡ Refused g → Refused f ≡ Refused g
-      all_by k = sym all ∙ rw (read_by_lem bytes passed ∙ k)
-
-      go : (k : Check) → program_check (Only (traces_in bytes).sort) contents.program ≡ k → refused_by k (parts_in bytes) f ≡ examining bytes (length T)
-      go Passed k = examined bytes (length T) (read_is bytes (read_by_lem bytes passed ∙ k)) (checked_is bytes (length T) all)
-      go (Refused g) k = examined bytes (length T) (ap (λ (x : Check). read_by x (parts_in bytes)) (all_by k) ∙ read_is bytes (read_by_lem bytes passed ∙ k))
-          (checked_is bytes (length T) all)
+  pub refused-told : {f : Refusal} → r ≡ Err f
+      → record { reading = read_by (program_check (Some (traces_in bytes).sort) contents.program) (parts_in bytes); checked = Err f }
+      ≡ examining bytes (length T)
+  refused-told q =
+      let all = check_is bytes good (length T) ∙ evaluation-refused contents.program (traces_in bytes) (length T) e q in
+      examined bytes (length T) (read_is bytes (read_by_lem bytes good)) (checked_is bytes (length T) all)
 
 -- ---- Demand 3
 
 -- what checking tells of the verdict that evaluating the record's contents decides
-pub checking_decides : (bytes T T' : List ℕ) {r : Checked} → r ≡ checking bytes (length T) → T' ≡ table_checked bytes T
+pub checking_decides : (bytes T T' : List ℕ) {r : Result Checked Refusal} → r ≡ checking bytes (length T) → T' ≡ table_checked bytes T
     → CheckDemand3 bytes (length T) (λ v. r ≡ compared_in bytes v) T'
-checking_decides bytes T T' told left P passed a room =
+checking_decides bytes T T' told left P good a room =
     let c = contents_in bytes in
     let h = traces_in bytes in
     let all = table_evaluated c.program h T in
     let sort = sort_means bytes (parts_in bytes).guard c.label in
-    let d = evaluation_decides c.program h T all refl refl P (rw sort at a) (traces_fit bytes passed) (rw (traces_mean bytes) room) in
+    let d = evaluation_decides c.program h T all refl refl P (rw sort at a) (traces_fit bytes good) (rw (traces_mean bytes) room) in
     let w = evaluation_passed c.program h (length T) refl d.1 in
-    let checks : record_check bytes (length T) ≡ Passed = check_is bytes passed (length T) ∙ w.0 in (
+    let checks : record_check bytes (length T) ≡ passed = check_is bytes good (length T) ∙ w.0 in (
       d.0,
       told ∙ rw (← w.1, traces_mean bytes) (sym (checked_is bytes (length T) checks)),
-      rw (left ∙ sym (table_is bytes passed T refl), ← traces_mean bytes) d.2,
+      rw (left ∙ sym (table_is bytes good T refl), ← traces_mean bytes) d.2,
     )
 
 -- ---- Numbers
@@ -220,9 +205,9 @@ checking_numbers bytes lent = go (record_check bytes lent) (agrees (contents_in 
 
     go : (k : Check) (b : Bool) → agrees (contents_in bytes).verdict (contents_in bytes).passes v ≡ b
         → checked_answer (checked_by k (contents_in bytes) v) ≡ answer_if k (digit b ∷ verdict_values v)
-    go Passed true e = rw e
-    go Passed false e = rw e
-    go (Refused f) b e = refl
+    go (Ok tt) true e = rw e
+    go (Ok tt) false e = rw e
+    go (Err f) b e = refl
 
 -- ---- All that is promised of an answer
 
@@ -235,34 +220,32 @@ promised : (bytes T T' : List ℕ) (r : Examined) → r ≡ examining bytes (len
 unfolding examining
 promised bytes T T' r told left = (told, (left, checking_decides bytes T T' (ap (λ (x : Examined). x.checked) told) left))
 
-pub trailer-refused : (bytes T : List ℕ) {l : Reading} {f : Refusal} {r : Examined} → l ≡ located bytes → l ≡ read.Refused f → r ≡ both_refused f
-    → Promised bytes T T r
-trailer-refused bytes T {l} {f} {r} q e b =
-    let w = refused_both bytes T (located-refusal bytes q e) in
-    promised bytes T T r (b ∙ w.0) w.1
+pub trailer-refused : (bytes T : List ℕ) {l : Result Parts Refusal} {f : Refusal} → l ≡ located bytes → l ≡ Err f
+    → Promised bytes T T (record { reading = Err f; checked = Err f })
+trailer-refused bytes T q e = let w = refused_both bytes T (located-refusal bytes q e) in promised bytes T T _ w.0 w.1
 
-module _ (bytes T T' : List ℕ) {l : Reading} (q : l ≡ located bytes) {p : Parts} (e : l ≡ read.Record p) {program : List ℕ} {h : Handed}
-    (pp : program ≡ part_of bytes p.program) (ph : h ≡ handed_in bytes p) {a : Evaluated}
+module _ (bytes T T' : List ℕ) {l : Result Parts Refusal} (q : l ≡ located bytes) {p : Parts} (e : l ≡ Ok p) {program : List ℕ} {h : Handed}
+    (pp : program ≡ part_of bytes p.program) (ph : h ≡ handed_in bytes p) {a : Result Verdict Refusal}
     (told : a ≡ evaluation program h (length T)) (left : T' ≡ table_evaluated program h T) where
   are : p ≡ parts_in bytes
   are = sym (parts_are bytes q e)
 
-  passed : trailer_check bytes ≡ Passed
-  passed = located_passed bytes q e
+  good : trailer_check bytes ≡ passed
+  good = located_passed bytes q e
 
   told_in : a ≡ evaluation (contents_in bytes).program (traces_in bytes) (length T)
   told_in = rw (pp, ph, are) at told
 
   left_in : T' ≡ table_checked bytes T
-  left_in = table_is bytes passed T (rw (pp, ph, are) at left)
+  left_in = table_is bytes good T (rw (pp, ph, are) at left)
 
-  pub verdict_promised : {w : Verdict} {k : Checked} → a ≡ evaluated.Verdict w → k ≡ compared (agrees p.verdict p.passes w) w
-      → Promised bytes T T' (record { reading = read.Record p; checked = k })
+  pub verdict_promised : {w : Verdict} {k : Checked} → a ≡ Ok w → k ≡ compared (agrees p.verdict p.passes w) w
+      → Promised bytes T T' (record { reading = Ok p; checked = Ok k })
   verdict_promised {w} {k} v c =
-      promised bytes T T' (record { reading = read.Record p; checked = k }) (rw (c, are) (verdict-told bytes T passed told_in v)) left_in
+      promised bytes T T' (record { reading = Ok p; checked = Ok k }) (rw (c, are) (verdict-told bytes T good told_in v)) left_in
 
-  pub refused_promised : {f : Refusal} {r : Examined} {program' : List ℕ} {s : Sort} → a ≡ evaluated.Refused f
-      → program' ≡ part_of bytes p.program → s ≡ sort_held p.guard
-      → r ≡ refused_by (program_check (Only s) program') p f → Promised bytes T T' r
-  refused_promised {f} {r} v pr ps c =
-      promised bytes T T' r (c ∙ rw (pr, ps, are) (refused-told bytes T passed told_in v)) left_in
+  pub refused_promised : {f : Refusal} {j : Result Parts Refusal} → a ≡ Err f
+      → j ≡ read_by (program_check (Some (sort_held p.guard)) (part_of bytes p.program)) p
+      → Promised bytes T T' (record { reading = j; checked = Err f })
+  refused_promised {f} {j} v c =
+      promised bytes T T' (record { reading = j; checked = Err f }) (rw (c, are) (refused-told bytes T good told_in v)) left_in

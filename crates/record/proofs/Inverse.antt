@@ -4,8 +4,8 @@
 use mathlib.Core.Path.{◌≡◌, ap, ◌∙◌}
 use mathlib.Core.List.{List, ◌++◌}
 use Prim.Native.Nat.{ℕ}
-use Rattle.refusal.specs.declared.Check.TheVariants.{Passed}
-use Rattle.rule.specs.declared.Sorts.TheVariants.{Only}
+use Rattle.std.specs.Prelude.{Some}
+use Rattle.refusal.specs.{passed}
 use Rattle.rule.specs.Reading.{program_check}
 use Rattle.rule.proofs.Programs.{accepted_passed, takes-own}
 use Rattle.layout.specs.declared.Format.{Format}
@@ -21,13 +21,13 @@ module _ (before : List ℕ) (c : Contents) (s : Stated c) where
   abbrev Bytes : List ℕ
   Bytes = before ++ layout c
 
-  pub layout_passed : read_check Bytes ≡ Passed
+  pub layout_passed : read_check Bytes ≡ passed
   unfolding read_check_with
   layout_passed =
       let sort = format_sort (format_of c) in
       rw (fields_passed formats (format_of c) Bytes (held_reads c.guard c.label) (layout_fields before c s))
-      (ap (λ (x : Contents). program_check (Only (format_sort (format_held formats Bytes))) x.program) (contents_in_lem before c s)
-      ∙ rw (format-held before c s) (accepted_passed c.program sort s.program.0 s.program.1 (Only sort) (takes-own sort)))
+      (ap (λ (x : Contents). program_check (Some (format_sort (format_held formats Bytes))) x.program) (contents_in_lem before c s)
+      ∙ rw (format-held before c s) (accepted_passed c.program sort s.program.0 s.program.1 (Some sort) (takes-own sort)))
 
   format-told : (parts_in Bytes).format ≡ (format_of c).number
   unfolding parts_for

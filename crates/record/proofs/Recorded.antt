@@ -12,8 +12,8 @@ use Prim.Native.Nat.{ℕ, suc, ◌^◌, ◌<◌, ◌≤◌}
 use native.Mathlib.Omega.{arith}
 use lib.ListN.{length}
 use borrow.Author.Tests.{eq-eqb}
-use Rattle.refusal.specs.declared.Check.TheVariants as check
-use Rattle.refusal.specs.{◌then◌}
+use Rattle.std.specs.Prelude.{Ok, Some, None}
+use Rattle.refusal.specs.{passed, ◌then◌}
 use Rattle.refusal.proofs.Checks.{then_passed}
 use Rattle.trace.specs.{most_samples, samples, padding_set}
 use Rattle.trace.proofs.Packing.{length-samples}
@@ -21,14 +21,14 @@ use Rattle.semantics.specs.declared.Sort.{Sort}
 use Rattle.semantics.specs.declared.Sort.TheVariants.{One, Two}
 use Rattle.semantics.specs.declared.Outcome.{Outcome}
 use Rattle.semantics.specs.declared.Verdict.{Verdict}
-use Rattle.semantics.specs.Language.{truth, Program, Traces, no_traces}
+use Rattle.semantics.specs.declared.Kind.TheVariants.{Truth as truth}
+use Rattle.semantics.specs.Language.{Program, Traces, no_traces}
 use Rattle.semantics.specs.Handed.{Handed, samples_of}
 use Rattle.semantics.specs.Numbering.{cells}
 use Rattle.semantics.specs.Cells.{outcome_in}
 use Rattle.semantics.specs.Verdicts.{decision_of, main_decision, verdict_number, verdict_of}
 use Rattle.semantics.proofs.Cells.{code_held, code_truth}
 use Rattle.semantics.proofs.Passes.{first-still, count_in_time}
-use Rattle.rule.specs.declared.Sorts.TheVariants.{Both, Only}
 use Rattle.rule.specs.Form.{AreBytes, Accepted}
 use Rattle.rule.specs.Reading.{Parsed, got, check_from, program_sort, program_for, program_check, program_in, program_of}
 use Rattle.rule.specs.Reading as reading
@@ -86,20 +86,20 @@ record Seen (program : List ℕ) (h : Handed) (lent : ℕ) : Type 0 where
   accepted : Accepted program h.sort P
   fit : LengthsFit h
   clean : (padding_set h.ram h.n ≡ false) × (padding_set h.guard h.m ≡ false)
-  table : table_check (cells (samples_of h) P) lent ≡ check.Passed
+  table : table_check (cells (samples_of h) P) lent ≡ passed
   fits : suc (cells (samples_of h) P) < 256 ^ 4
 
-seen_program : (p : Parsed Program) (h : Handed) (lent : ℕ) → check_read p h lent ≡ check.Passed → check_from p ≡ check.Passed
+seen_program : (p : Parsed Program) (h : Handed) (lent : ℕ) → check_read p h lent ≡ passed → check_from p ≡ passed
 seen_program (got P rest) h lent e = refl
 seen_program (reading.refused f) h lent e = e
 
-seen : (program : List ℕ) (h : Handed) (lent : ℕ) → AreBytes program → evaluate_check program h lent ≡ check.Passed → Seen program h lent
+seen : (program : List ℕ) (h : Handed) (lent : ℕ) → AreBytes program → evaluate_check program h lent ≡ passed → Seen program h lent
 unfolding evaluate_check program_check
 seen program h lent are e =
-    let w = passed_accepted (Only h.sort) program are (seen_program (program_for (Only h.sort) program) h lent e) in
+    let w = passed_accepted (Some h.sort) program are (seen_program (program_for (Some h.sort) program) h lent e) in
     let P = w.0 in
     let a : Accepted program h.sort P = rw (takes-only h.sort (program_sort program) w.2) at w.1 in
-    let both : (trace_check h then table_check (cells (samples_of h) P) lent) ≡ check.Passed = rw (read-own program h.sort P a) at e in
+    let both : (trace_check h then table_check (cells (samples_of h) P) lent) ≡ passed = rw (read-own program h.sort P a) at e in
     let c = then_passed _ _ both in
     let t = trace_passed h c.0 in
     record {
@@ -111,7 +111,7 @@ seen program h lent are e =
       fits = omega (arith, (table_passed_lem (cells (samples_of h) P) lent refl c.1).1);
     }
 
-module _ (program : List ℕ) (h : Handed) (lent room : ℕ) (are : AreBytes program) (e : write_check program h lent room ≡ check.Passed) where
+module _ (program : List ℕ) (h : Handed) (lent room : ℕ) (are : AreBytes program) (e : write_check program h lent room ≡ passed) where
   evaluated : Seen program h lent
   unfolding write_check
   evaluated = seen program h lent are (then_passed _ _ e).0
@@ -123,7 +123,7 @@ module _ (program : List ℕ) (h : Handed) (lent room : ℕ) (are : AreBytes pro
   v = worked_out program h
 
   program_is : program_of program ≡ evaluated.P
-  program_is = ap program_in (read-encoded program h.sort evaluated.P evaluated.accepted Both refl)
+  program_is = ap program_in (read-encoded program h.sort evaluated.P evaluated.accepted None refl)
 
   -- the pass count fits its field
   counted : (1 ≤ v.passes) × (v.passes < 256 ^ 4)
@@ -155,7 +155,7 @@ module _ (program : List ℕ) (h : Handed) (lent room : ℕ) (are : AreBytes pro
       )
 
   -- the table's check, of what is recorded
-  table_fits : table_check (cells (samples_of h) (program_of program)) lent ≡ check.Passed
+  table_fits : table_check (cells (samples_of h) (program_of program)) lent ≡ passed
   table_fits = rw program_is evaluated.table
 
 -- ---- Reading and checking
@@ -164,7 +164,7 @@ recorded-format : (program : List ℕ) (h : Handed) (v : Verdict) → format_of 
 unfolding recorded
 recorded-format program h v = written_format h h.sort
 
-pub written_reads_back : (before program : List ℕ) (h : Handed) (lent room : ℕ) → AreBytes program → write_check program h lent room ≡ check.Passed
+pub written_reads_back : (before program : List ℕ) (h : Handed) (lent room : ℕ) → AreBytes program → write_check program h lent room ≡ passed
     → (r : ReadsBack before (recorded program h (worked_out program h))) × (r.parts.format ≡ (format_written h.sort).number)
 written_reads_back before program h lent room are e =
     let v = worked_out program h in
@@ -172,9 +172,9 @@ written_reads_back before program h lent room are e =
     (r, r.format ∙ ap (λ (F : Format). F.number) (recorded-format program h v))
 
 -- bytes that hold c, and whose verdict and pass count are the ones worked out
-agreed : (bytes : List ℕ) (lent : ℕ) (c : Contents) (t : Traces) (v : Verdict) → read_check bytes ≡ check.Passed → contents_in bytes ≡ c
-    → traces_held c ≡ t → table_check (cells t (program_held c)) lent ≡ check.Passed → verdict_of (program_held c) t ≡ v
-    → c.verdict ≡ verdict_number v.decision → c.passes ≡ v.passes → checking bytes lent ≡ checked.Agrees v
+agreed : (bytes : List ℕ) (lent : ℕ) (c : Contents) (t : Traces) (v : Verdict) → read_check bytes ≡ passed → contents_in bytes ≡ c
+    → traces_held c ≡ t → table_check (cells t (program_held c)) lent ≡ passed → verdict_of (program_held c) t ≡ v
+    → c.verdict ≡ verdict_number v.decision → c.passes ≡ v.passes → checking bytes lent ≡ Ok (checked.Agrees v)
 unfolding checking record_check
 agreed bytes lent c t v r e same f w d p =
     ap (λ (x : Contents). checked_by (read_check bytes then table_check (cells (traces_held x) (program_held x)) lent) x
@@ -187,8 +187,8 @@ unfolding recorded samples
 traces-recorded program v (one trace n) = refl
 traces-recorded program v (two ram n guard m) = refl
 
-pub written_agrees : (before program : List ℕ) (h : Handed) (lent room : ℕ) → AreBytes program → OneOrTwo h → write_check program h lent room ≡ check.Passed
-    → checking (before ++ record_of program h) lent ≡ checked.Agrees (worked_out program h)
+pub written_agrees : (before program : List ℕ) (h : Handed) (lent room : ℕ) → AreBytes program → OneOrTwo h → write_check program h lent room ≡ passed
+    → checking (before ++ record_of program h) lent ≡ Ok (checked.Agrees (worked_out program h))
 unfolding record_of recorded
 written_agrees before program h lent room are l e =
     let v = worked_out program h in

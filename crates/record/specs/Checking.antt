@@ -1,8 +1,7 @@
 -- 'Checking a record', of documents 01 and 02: its refusals (1 to 3, 23, 4 to 17 with 25 and 26, 21), its answer, what it leaves in the table.
-use Rattle.std.specs.Prelude.{ℕ, ◌≡◌, Bool, true, false, ◌&&◌, List, ◌∷◌, eqb, length}
-use Rattle.refusal.specs.declared.Check.{Check}
-use Rattle.refusal.specs.declared.Check.TheVariants as check
-use Rattle.refusal.specs.{◌then◌, changed_if, Answer, answered, refused_as, answer_if}
+use Rattle.std.specs.Prelude.{ℕ, ◌≡◌, Bool, true, false, ◌&&◌, List, ◌∷◌, eqb, length, Result, Ok, Err}
+use Rattle.refusal.specs.declared.Refusal.{Refusal}
+use Rattle.refusal.specs.{Check, passed, ◌then◌, changed_if, Answer, answered, refused_as, answer_if}
 use Rattle.trace.specs.{digit}
 use Rattle.semantics.specs.declared.Verdict.{Verdict}
 use Rattle.semantics.specs.Language.{Program}
@@ -38,12 +37,12 @@ abbrev pub compared : Bool → Verdict → Checked
 compared true v = checked.Agrees v
 compared false v = checked.Differs v
 
-abbrev pub checked_by : Check → Contents → Verdict → Checked
-checked_by check.Passed c v = compared (agrees c.verdict c.passes v) v
-checked_by (check.Refused f) c v = checked.Refused f
+abbrev pub checked_by : Check → Contents → Verdict → Result Checked Refusal
+checked_by (Ok u) c v = Ok (compared (agrees c.verdict c.passes v) v)
+checked_by (Err f) c v = Err f
 
 -- 'works the verdict out again and answers agrees or differs'
-unfoldable pub checking : List ℕ → ℕ → Checked
+unfoldable pub checking : List ℕ → ℕ → Result Checked Refusal
 checking bytes lent =
     let c = contents_in bytes in
     checked_by (record_check bytes lent) c (verdict_of (program_held c) (traces_held c))
@@ -55,10 +54,10 @@ table_checked bytes table =
     changed_if (record_check bytes (length table)) (decided_table (program_held c) (traces_held c) table) table
 
 -- the answer in numbers: 1 for 'agrees' and 0 for 'differs', the number of the verdict worked out and its pass count
-abbrev pub checked_answer : Checked → Answer
-checked_answer (checked.Agrees v) = answered (1 ∷ verdict_values v)
-checked_answer (checked.Differs v) = answered (0 ∷ verdict_values v)
-checked_answer (checked.Refused f) = refused_as f
+abbrev pub checked_answer : Result Checked Refusal → Answer
+checked_answer (Ok (checked.Agrees v)) = answered (1 ∷ verdict_values v)
+checked_answer (Ok (checked.Differs v)) = answered (0 ∷ verdict_values v)
+checked_answer (Err f) = refused_as f
 
 -- what checking answers, in numbers
 abbrev pub check_numbers : List ℕ → ℕ → Answer
@@ -71,13 +70,13 @@ check_numbers bytes lent =
 -- that it holds an accepted encoding of, and a table that 21 leaves
 abbrev pub CheckDemand3 : List ℕ → ℕ → (Verdict → Type 0) → List ℕ → Type 0
 CheckDemand3 bytes lent Told table =
-    (P : Program) → trailer_check bytes ≡ check.Passed → Accepted (contents_in bytes).program (format_sort (format_of (contents_in bytes))) P
-    → table_check (cells (traces_held (contents_in bytes)) P) lent ≡ check.Passed
+    (P : Program) → trailer_check bytes ≡ passed → Accepted (contents_in bytes).program (format_sort (format_of (contents_in bytes))) P
+    → table_check (cells (traces_held (contents_in bytes)) P) lent ≡ passed
     → (v : Verdict) × Told v × Decides P (traces_held (contents_in bytes)) v table
 
 -- what is told of a verdict: whether the record has it, over verdict and pass count together
-abbrev pub compared_in : List ℕ → Verdict → Checked
-compared_in bytes v = compared (agrees (contents_in bytes).verdict (contents_in bytes).passes v) v
+abbrev pub compared_in : List ℕ → Verdict → Result Checked Refusal
+compared_in bytes v = Ok (compared (agrees (contents_in bytes).verdict (contents_in bytes).passes v) v)
 
 -- reading and checking in one
 unfoldable pub examining : List ℕ → ℕ → Examined

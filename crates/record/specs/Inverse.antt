@@ -1,7 +1,6 @@
 -- What reading and writing owe each other (demand 2).
-use Rattle.std.specs.Prelude.{◌≡◌, ◌↔◌, List, ◌++◌, ℕ, take, drop}
+use Rattle.std.specs.Prelude.{◌≡◌, ◌↔◌, List, ◌++◌, ℕ, take, drop, Ok}
 use Rattle.layout.specs.declared.Parts.{Parts}
-use Rattle.layout.specs.declared.Reading.TheVariants as read
 use Rattle.layout.specs.Form.{Contents, format_of, layout, Stated}
 use Rattle.layout.specs.Trailer.{contents_at}
 use Rattle.record.specs.Reading.{reading}
@@ -9,7 +8,7 @@ use Rattle.record.specs.Reading.{reading}
 -- bytes that end in a record of these contents are read as those, in their format, and the bytes before it are left
 pub record ReadsBack (before : List ℕ) (c : Contents) : Type 0 where
   pub parts : Parts
-  pub accepted : reading (before ++ layout c) ≡ read.Record parts
+  pub accepted : reading (before ++ layout c) ≡ Ok parts
   pub contents : contents_at (before ++ layout c) parts ≡ c
   pub format : parts.format ≡ (format_of c).number
   pub left : take parts.program.start (before ++ layout c) ≡ before
@@ -26,7 +25,7 @@ EndInRecord k bytes = (before : List ℕ) × (c : Contents) × Stated c × ((for
 
 -- 'the reader accepts exactly the stated layout', in each format
 abbrev pub AcceptsExactly : List ℕ → Type 0
-AcceptsExactly bytes = (k : ℕ) → ((p : Parts) × (reading bytes ≡ read.Record p) × (p.format ≡ k)) ↔ EndInRecord k bytes
+AcceptsExactly bytes = (k : ℕ) → ((p : Parts) × (reading bytes ≡ Ok p) × (p.format ≡ k)) ↔ EndInRecord k bytes
 
 -- a record's own bytes: from its program's first to its trailer's last, the last of all
 abbrev pub own_bytes : List ℕ → Parts → List ℕ
@@ -35,5 +34,5 @@ own_bytes bytes p = drop p.program.start bytes
 -- 'two accepted records have equal contents exactly when their own bytes are equal', whatever stands before them
 abbrev pub SameExactly : List ℕ → List ℕ → Type 0
 SameExactly bytes bytes' =
-    (p p' : Parts) → reading bytes ≡ read.Record p → reading bytes' ≡ read.Record p'
+    (p p' : Parts) → reading bytes ≡ Ok p → reading bytes' ≡ Ok p'
     → (contents_at bytes p ≡ contents_at bytes' p') ↔ (own_bytes bytes p ≡ own_bytes bytes' p')

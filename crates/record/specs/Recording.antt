@@ -1,9 +1,8 @@
 -- 'Recording', of documents 01 and 02: its refusals (5 to 17 with 25 and 26, 20, 23, 21, 22), its answer, what it leaves in the table and writes.
-use Rattle.std.specs.Prelude.{ℕ, ◌≡◌, List, ◌∷◌, ltb, length}
+use Rattle.std.specs.Prelude.{ℕ, ◌≡◌, List, ◌∷◌, ltb, length, Result, Ok, Err}
+use Rattle.refusal.specs.declared.Refusal.{Refusal}
 use Rattle.refusal.specs.declared.Refusal.TheVariants.{OutputShort}
-use Rattle.refusal.specs.declared.Check.{Check}
-use Rattle.refusal.specs.declared.Check.TheVariants as check
-use Rattle.refusal.specs.{refuse_if, ◌then◌, changed_if, Answer, answered, refused_as}
+use Rattle.refusal.specs.{Check, passed, refuse_if, ◌then◌, changed_if, Answer, answered, refused_as}
 use Rattle.semantics.specs.declared.Verdict.{Verdict}
 use Rattle.semantics.specs.declared.Sort.{Sort}
 use Rattle.semantics.specs.declared.Sort.TheVariants.{One, Two}
@@ -17,7 +16,6 @@ use Rattle.layout.specs.declared.Format.{Format}
 use Rattle.layout.specs.Form.{format2, format3, layout}
 use Rattle.layout.specs.Filling.{recorded}
 use Rattle.record.specs.declared.Written.{Written}
-use Rattle.record.specs.declared.Written.TheVariants as written
 
 -- the format that is written, by the traces handed in
 abbrev pub format_written : Sort → Format
@@ -45,12 +43,16 @@ room_check program h room = refuse_if (ltb room (length (record_of program h))) 
 unfoldable pub write_check : List ℕ → Handed → ℕ → ℕ → Check
 write_check program h lent room = evaluate_check program h lent then room_check program h room
 
-abbrev pub written_by : Check → ℕ → Verdict → Written
-written_by check.Passed size v = written.Record size v
-written_by (check.Refused f) size v = written.Refused f
+-- a record of so many bytes, with this verdict
+abbrev pub written : ℕ → Verdict → Result Written Refusal
+written size v = Ok (record { length = size; verdict = v })
+
+abbrev pub written_by : Check → ℕ → Verdict → Result Written Refusal
+written_by (Ok u) size v = written size v
+written_by (Err f) size v = Err f
 
 -- the answer: how long the record is, and the verdict that went into it
-unfoldable pub writing : List ℕ → Handed → ℕ → ℕ → Written
+unfoldable pub writing : List ℕ → Handed → ℕ → ℕ → Result Written Refusal
 writing program h lent room =
     written_by
     (write_check program h lent room)
@@ -68,11 +70,11 @@ table_written program h table room =
     changed_if (write_check program h (length table) room) (table_evaluated program h table) table
 
 -- the answer in numbers: the record's length, the verdict's number and its pass count
-abbrev pub written_answer : Written → Answer
-written_answer (written.Record size v) = answered (size ∷ verdict_values v)
-written_answer (written.Refused f) = refused_as f
+abbrev pub written_answer : Result Written Refusal → Answer
+written_answer (Ok w) = answered (w.length ∷ verdict_values w.verdict)
+written_answer (Err f) = refused_as f
 
 -- Demand 3, of the verdict that recording works out: as evaluating owes it, for an output that 22 leaves
 abbrev pub RecordDemand3 : List ℕ → Handed → ℕ → ℕ → (Verdict → Type 0) → List ℕ → Type 0
 RecordDemand3 program h lent room Told table =
-    room_check program h room ≡ check.Passed → Demand3 program h lent Told table
+    room_check program h room ≡ passed → Demand3 program h lent Told table

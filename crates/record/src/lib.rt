@@ -3,113 +3,85 @@
 // changes nothing that is lent.
 #![tactic(auto)]
 
-ghost use Rattle.std.specs.Prelude.{◌≡◌, ◌∷◌, length};
+ghost use Rattle.std.specs.Prelude.{◌≡◌, ◌∷◌, length, Some};
 ghost use Rattle.refusal.specs.{answer_if};
-ghost use Rattle.semantics.specs.Handed.{handed, one_trace, two_traces};
 ghost use Rattle.semantics.specs.Verdicts.{verdict_values};
-ghost use Rattle.rule.specs.declared.Sorts.TheVariants as Sorts;
 ghost use Rattle.rule.specs.Reading.{program_check};
-ghost use Rattle.layout.specs.Trailer.{parts_in};
-ghost use Rattle.record.specs.declared.Written.TheVariants as Written;
+ghost use Rattle.prepare.specs.Settled.{handed_in};
+ghost use Rattle.layout.specs.Trailer.{part_of, parts_in, read_by};
 ghost use Rattle.record.specs.Reading.{read_check, reading, parts_values, read_answer};
-ghost use Rattle.record.specs.Recording.{worked_out, record_of, write_check, writing, written_answer, output_written, table_written, RecordDemand3};
+ghost use Rattle.record.specs.Recording.{worked_out, record_of, write_check, writing, written, written_answer, output_written, table_written, RecordDemand3};
 ghost use Rattle.record.specs.Checking.{checking, checked_answer, check_numbers, table_checked, CheckDemand3, compared_in, examining, agrees, compared};
-ghost use Rattle.record.specs.Steps.{beside_bytes, sort_held, guard_bytes, guard_held, both_refused, refused_by};
+ghost use Rattle.record.specs.Steps.{beside_bytes, sort_held, guard_bytes, guard_held};
 
-use evaluate::Evaluated;
-use layout::{GuardTrace, Parts, Reading};
-use refusal::{Check, Refusal};
-use rule::Sorts;
+use layout::{GuardTrace, Parts};
+use prepare::Handed;
+use refusal::Refusal;
 use semantics::{Sort, Verdict};
 
-// What recording answers: the record's length and the verdict that went into it, or the refusal.
-#[derive(Clone, Copy)]
-pub enum Written {
-    Record(usize, Verdict),
-    Refused(Refusal),
+// What recording answers: the record's length and the verdict that went into it.
+#[derive(Clone, Copy, PartialEq, Eq)]
+pub struct Written {
+    pub length: usize,
+    pub verdict: Verdict,
 }
 
-// What checking answers, with the verdict that it worked out, or the refusal.
-#[derive(Clone, Copy)]
+// What checking answers, with the verdict that it worked out.
+#[derive(Clone, Copy, PartialEq, Eq)]
 pub enum Checked {
     Agrees(Verdict),
     Differs(Verdict),
-    Refused(Refusal),
 }
 
 // What reading and checking answer.
-#[derive(Clone, Copy)]
+#[derive(Clone, Copy, PartialEq, Eq)]
 pub struct Examined {
-    pub reading: Reading,
-    pub checked: Checked,
+    pub reading: Result<Parts, Refusal>,
+    pub checked: Result<Checked, Refusal>,
 }
 
-// Records a program of one contact on a packed trace of n samples: works the verdict out over the lent table and writes the
-// record, of format 2, to the front of the output.
-pub fn write(program: &[u8], trace: &[u8], n: usize, table: &mut [u16], out: &mut [u8]) -> Written
-    ensures answer { result ≡ writing program.now (one_trace trace.now n) (length table.old) (length out.old) }
-    ensures numbers { written_answer result ≡ answer_if (write_check program.now (one_trace trace.now n) (length table.old) (length out.old)) (length (record_of program.now (one_trace trace.now n)) ∷ verdict_values (worked_out program.now (one_trace trace.now n))) }
-    ensures output { out.new ≡ output_written program.now (one_trace trace.now n) (length table.old) out.old }
-    ensures cells { table.new ≡ table_written program.now (one_trace trace.now n) table.old (length out.old) }
-    ensures decides { RecordDemand3 program.now (one_trace trace.now n) (length table.old) (length out.old) (λ v. result ≡ Written.Record (length (record_of program.now (one_trace trace.now n))) v) table.new }
-{
-    write_handed(program, Sort::One, trace, n, &[], 0, table, out)
-}
-
-// The same of a program of two contacts, on packed traces of n samples of the ram and m of the guard, in format 3.
-pub fn write_two(
+// Records a program on the traces that it is handed, which say its sort: works the verdict out over the lent table and writes the
+// record, of format 2 with one trace and of format 3 with two, to the front of the output.
+pub fn write(
     program: &[u8],
-    ram: &[u8],
-    n: usize,
-    guard: &[u8],
-    m: usize,
+    handed: Handed,
     table: &mut [u16],
     out: &mut [u8],
-) -> Written
-    ensures answer { result ≡ writing program.now (two_traces ram.now n guard.now m) (length table.old) (length out.old) }
-    ensures numbers { written_answer result ≡ answer_if (write_check program.now (two_traces ram.now n guard.now m) (length table.old) (length out.old)) (length (record_of program.now (two_traces ram.now n guard.now m)) ∷ verdict_values (worked_out program.now (two_traces ram.now n guard.now m))) }
-    ensures output { out.new ≡ output_written program.now (two_traces ram.now n guard.now m) (length table.old) out.old }
-    ensures cells { table.new ≡ table_written program.now (two_traces ram.now n guard.now m) table.old (length out.old) }
-    ensures decides { RecordDemand3 program.now (two_traces ram.now n guard.now m) (length table.old) (length out.old) (λ v. result ≡ Written.Record (length (record_of program.now (two_traces ram.now n guard.now m))) v) table.new }
+) -> Result<Written, Refusal>
+    ensures answer { result ≡ writing program.now (handed_in handed.entry) (length table.old) (length out.old) }
+    ensures numbers { written_answer result ≡ answer_if (write_check program.now (handed_in handed.entry) (length table.old) (length out.old)) (length (record_of program.now (handed_in handed.entry)) ∷ verdict_values (worked_out program.now (handed_in handed.entry))) }
+    ensures output { out.new ≡ output_written program.now (handed_in handed.entry) (length table.old) out.old }
+    ensures cells { table.new ≡ table_written program.now (handed_in handed.entry) table.old (length out.old) }
+    ensures decides { RecordDemand3 program.now (handed_in handed.entry) (length table.old) (length out.old) (λ v. result ≡ written (length (record_of program.now (handed_in handed.entry))) v) table.new }
 {
-    write_handed(program, Sort::Two, ram, n, guard, m, table, out)
-}
-
-// The same of a program of either sort. With one trace `guard` has no bytes and `m` is 0.
-fn write_handed(
-    program: &[u8],
-    sort: Sort,
-    ram: &[u8],
-    n: usize,
-    guard: &[u8],
-    m: usize,
-    table: &mut [u16],
-    out: &mut [u8],
-) -> Written
-    ensures answer { result ≡ writing program.now (handed sort ram.now n guard.now m) (length table.old) (length out.old) }
-    ensures numbers { written_answer result ≡ answer_if (write_check program.now (handed sort ram.now n guard.now m) (length table.old) (length out.old)) (length (record_of program.now (handed sort ram.now n guard.now m)) ∷ verdict_values (worked_out program.now (handed sort ram.now n guard.now m))) }
-    ensures output { out.new ≡ output_written program.now (handed sort ram.now n guard.now m) (length table.old) out.old }
-    ensures cells { table.new ≡ table_written program.now (handed sort ram.now n guard.now m) table.old (length out.old) }
-    ensures decides { RecordDemand3 program.now (handed sort ram.now n guard.now m) (length table.old) (length out.old) (λ v. result ≡ Written.Record (length (record_of program.now (handed sort ram.now n guard.now m))) v) table.new }
-{
-    let size = program.len() + trace::bytes_for(n) + beside(sort, m) + layout::RESULT;
+    let size = program.len()
+        + trace::bytes_for(handed.n)
+        + beside(handed.sort, handed.m)
+        + layout::RESULT;
     if out.len() < size {
-        return match evaluate::check_handed(program, sort, ram, n, guard, m, table.len()) {
-            Check::Refused(refusal) => Written::Refused(refusal),
-            Check::Passed => Written::Refused(Refusal::OutputShort),
-        };
+        evaluate::check(program, handed, table.len())?;
+        return Err(Refusal::OutputShort);
     }
-    match evaluate::evaluate_handed(program, sort, ram, n, guard, m, table) {
-        Evaluated::Refused(refusal) => Written::Refused(refusal),
-        Evaluated::Verdict(verdict) => {
-            layout::fill(program, sort, ram, n as u16, guard, m as u16, verdict, out);
-            Written::Record(size, verdict)
-        }
-    }
+    let verdict = evaluate::evaluate(program, handed, table)?;
+    layout::fill(
+        program,
+        handed.sort,
+        handed.ram,
+        handed.n as u16,
+        handed.guard,
+        handed.m as u16,
+        verdict,
+        out,
+    );
+    Ok(Written {
+        length: size,
+        verdict,
+    })
 }
 
 // The bytes of a record of a sort beside its program, ram trace, verdict and passes: those of m samples of the guard, if there
 // are two traces, and the trailer's.
+#[tactic(auto, unfolding(trace::specs::bytes_for))]
 fn beside(sort: Sort, m: usize) -> usize
     ensures { result ≡ beside_bytes sort m }
 {
@@ -120,127 +92,96 @@ fn beside(sort: Sort, m: usize) -> usize
 }
 
 // Reads the record that the bytes end in.
-pub fn read(bytes: &[u8]) -> Reading
+pub fn read(bytes: &[u8]) -> Result<Parts, Refusal>
     ensures answer { result ≡ reading bytes.now }
     ensures numbers { read_answer result ≡ answer_if (read_check bytes.now) (parts_values (parts_in bytes.now)) }
 {
-    match layout::locate(bytes) {
-        Reading::Refused(refusal) => Reading::Refused(refusal),
-        Reading::Record(parts) => {
-            let program = parts.program;
-            let guard = parts.guard;
-            let checked = rule::check_sorts(
-                layout::part(bytes, program),
-                Sorts::Only(sort_of(guard)),
-            );
-            let check = checked.check;
-            match check {
-                Check::Refused(refusal) => Reading::Refused(refusal),
-                Check::Passed => Reading::Record(parts),
-            }
-        }
-    }
+    let parts = layout::locate(bytes)?;
+    judged(bytes, parts)
+}
+
+// The parts of a record, where its program is accepted.
+fn judged(bytes: &[u8], parts: Parts) -> Result<Parts, Refusal>
+    ensures { result ≡ read_by (program_check (Some (sort_held parts.guard)) (part_of bytes.now parts.program)) parts }
+{
+    let program = layout::part(bytes, parts.program);
+    rule::check_sorts(program, Some(sort_of(parts.guard)))?;
+    Ok(parts)
 }
 
 // Checks the record that the bytes end in: works verdict and passes out again over the lent table.
-pub fn check(bytes: &[u8], table: &mut [u16]) -> Checked
+#[tactic(auto, unfolding(crate::specs::Checking::examining), using(crate::proofs::Examining::checking_numbers))]
+pub fn check(bytes: &[u8], table: &mut [u16]) -> Result<Checked, Refusal>
     ensures answer { result ≡ checking bytes.now (length table.old) }
     ensures numbers { checked_answer result ≡ check_numbers bytes.now (length table.old) }
     ensures cells { table.new ≡ table_checked bytes.now table.old }
     ensures decides { CheckDemand3 bytes.now (length table.old) (λ v. result ≡ compared_in bytes.now v) table.new }
 {
-    let examined = examine(bytes, table);
-    examined.checked
+    examine(bytes, table).checked
 }
 
-// Reads and checks the record that the bytes end in, with its program judged once.
+// Reads and checks the record that the bytes end in. Its program is judged once, unless evaluating refuses the record: whether
+// it is read is then asked of the program alone.
 pub fn examine(bytes: &[u8], table: &mut [u16]) -> Examined
     ensures answer { result ≡ examining bytes.now (length table.old) }
     ensures cells { table.new ≡ table_checked bytes.now table.old }
     ensures decides { CheckDemand3 bytes.now (length table.old) (λ v. result.checked ≡ compared_in bytes.now v) table.new }
 {
-    match layout::locate(bytes) {
-        Reading::Refused(refusal) => refused(refusal),
-        Reading::Record(parts) => {
-            let program = parts.program;
-            let trace = parts.trace;
-            let guard = parts.guard;
-            match evaluate::evaluate_handed(
-                layout::part(bytes, program),
-                sort_of(guard),
-                layout::part(bytes, trace),
-                parts.n as usize,
-                guard_part(bytes, guard),
-                guard_samples(guard),
-                table,
-            ) {
-                Evaluated::Verdict(verdict) => Examined {
-                    reading: Reading::Record(parts),
-                    checked: compare(parts, verdict),
-                },
-                Evaluated::Refused(refusal) => refused_by(
-                    layout::part(bytes, program),
-                    sort_of(guard),
-                    parts,
-                    refusal,
-                ),
-            }
+    let parts = match layout::locate(bytes) {
+        Ok(parts) => parts,
+        Err(refusal) => {
+            return Examined {
+                reading: Err(refusal),
+                checked: Err(refusal),
+            };
         }
+    };
+    let handed = Handed {
+        sort: sort_of(parts.guard),
+        ram: layout::part(bytes, parts.trace),
+        n: parts.n as usize,
+        guard: guard_part(bytes, parts.guard),
+        m: guard_samples(parts.guard),
+    };
+    match evaluate::evaluate(layout::part(bytes, parts.program), handed, table) {
+        Ok(verdict) => Examined {
+            reading: Ok(parts),
+            checked: Ok(compare(parts, verdict)),
+        },
+        Err(refusal) => Examined {
+            reading: judged(bytes, parts),
+            checked: Err(refusal),
+        },
     }
 }
 
 // The sort of the program of a record, by its guard trace.
-fn sort_of(guard: GuardTrace) -> Sort
+fn sort_of(guard: Option<GuardTrace>) -> Sort
     ensures { result ≡ sort_held guard }
 {
     match guard {
-        GuardTrace::Absent => Sort::One,
-        GuardTrace::At(_, _) => Sort::Two,
+        None => Sort::One,
+        Some(_) => Sort::Two,
     }
 }
 
 // The bytes of a record's guard trace, none where there is no such trace.
-fn guard_part(bytes: &[u8], guard: GuardTrace) -> &[u8]
+fn guard_part(bytes: &[u8], guard: Option<GuardTrace>) -> &[u8]
     ensures { result.now ≡ guard_bytes bytes.now guard }
 {
     match guard {
-        GuardTrace::Absent => &bytes[..0],
-        GuardTrace::At(span, _) => layout::part(bytes, span),
+        None => &bytes[..0],
+        Some(guard) => layout::part(bytes, guard.span),
     }
 }
 
 // The number of its samples.
-fn guard_samples(guard: GuardTrace) -> usize
+fn guard_samples(guard: Option<GuardTrace>) -> usize
     ensures { result ≡ guard_held guard }
 {
     match guard {
-        GuardTrace::Absent => 0,
-        GuardTrace::At(_, m) => m as usize,
-    }
-}
-
-// A record that is refused.
-fn refused(refusal: Refusal) -> Examined
-    ensures { result ≡ both_refused refusal }
-{
-    Examined {
-        reading: Reading::Refused(refusal),
-        checked: Checked::Refused(refusal),
-    }
-}
-
-// A record that evaluating refuses: with an accepted program it is read all the same.
-fn refused_by(program: &[u8], sort: Sort, parts: Parts, refusal: Refusal) -> Examined
-    ensures { result ≡ refused_by (program_check (Sorts.Only sort) program.now) parts refusal }
-{
-    let judged = rule::check_sorts(program, Sorts::Only(sort));
-    let check = judged.check;
-    match check {
-        Check::Refused(_) => refused(refusal),
-        Check::Passed => Examined {
-            reading: Reading::Record(parts),
-            checked: Checked::Refused(refusal),
-        },
+        None => 0,
+        Some(guard) => guard.samples as usize,
     }
 }
 
@@ -248,12 +189,10 @@ fn refused_by(program: &[u8], sort: Sort, parts: Parts, refusal: Refusal) -> Exa
 fn compare(parts: Parts, verdict: Verdict) -> Checked
     ensures { result ≡ compared (agrees parts.verdict parts.passes verdict) verdict }
 {
-    let decision = verdict.decision;
-    if parts.verdict as u32 != semantics::verdict_number(decision) {
-        return Checked::Differs(verdict);
+    let number = semantics::verdict_number(verdict.decision);
+    if parts.verdict as u32 == number && parts.passes == verdict.passes {
+        Checked::Agrees(verdict)
+    } else {
+        Checked::Differs(verdict)
     }
-    if parts.passes != verdict.passes {
-        return Checked::Differs(verdict);
-    }
-    Checked::Agrees(verdict)
 }

@@ -5,8 +5,9 @@
 --   number_small           no refusal has a greater number than the greatest in the list
 --   number_injective       two refusals with the same number are the same
 --   check_injective        two checks with the same number are the same; 0 is no refusal's number
---   refused_same           two checks that refuse are the same by their refusals
---   refused                a check that refuses has not passed
+--   refused_same           two answers that refuse are the same by their refusals
+--   value_same             two that do not, by their values
+--   refused                an answer that refuses has no value
 --   no_number              a refusal has a number other than 0
 --   refused-left           a refusal leaves what was there
 use Prim.Native.Nat.{ℕ, ◌≤◌, max}
@@ -18,11 +19,10 @@ use lib.Dec.{eqb}
 use borrow.Author.Tests.{ne_eqb, eqb-true}
 use Rattle.refusal.specs.declared.Refusal.{Refusal}
 use Rattle.refusal.specs.declared.Refusal.TheVariants as refusal
-use Rattle.refusal.specs.declared.Check.{Check}
-use Rattle.refusal.specs.declared.Check.TheVariants.{Passed, Refused}
-use Rattle.refusal.specs.{number_of, refusals, check_number, check_among, check_of, values_left}
+use Rattle.std.specs.Prelude.{Result, Ok, Err}
+use Rattle.refusal.specs.{Check, passed, number_of, refusals, check_number, check_among, check_of, values_left}
 
-pub refusal_back : (f : Refusal) → check_of (number_of f) ≡ Refused f
+pub refusal_back : (f : Refusal) → check_of (number_of f) ≡ Err f
 refusal_back refusal.TrailerMissing = refl
 refusal_back refusal.MarkOrFormat = refl
 refusal_back refusal.TrailerFields = refl
@@ -51,33 +51,40 @@ refusal_back refusal.OperandKind = refl
 refusal_back refusal.ArgumentKind = refl
 
 pub check_back : (c : Check) → check_of (check_number c) ≡ c
-check_back Passed = refl
-check_back (Refused f) = refusal_back f
+check_back (Ok tt) = refl
+check_back (Err f) = refusal_back f
 
--- 0 where a check passed, else 1
-abbrev passes : Check → ℕ
-passes Passed = 0
-passes (Refused f) = 1
+-- 0 where nothing is refused, else 1
+abbrev passes : {A : Type 0} → Result A Refusal → ℕ
+passes (Ok x) = 0
+passes (Err f) = 1
 
 pub check_injective : (c d : Check) → check_number c ≡ check_number d → c ≡ d
 check_injective c d e = sym (check_back c) ∙ ap check_of e ∙ check_back d
 
--- the refusal that a check holds
-abbrev refusal_in : Refusal → Check → Refusal
-refusal_in z Passed = z
-refusal_in z (Refused f) = f
+-- the refusal that an answer holds, and its value
+abbrev refusal_in : {A : Type 0} → Refusal → Result A Refusal → Refusal
+refusal_in z (Ok x) = z
+refusal_in z (Err f) = f
 
-pub refused_same : {f g : Refusal} → Refused f ≡ Refused g → f ≡ g
-refused_same {f} e = ap (refusal_in f) e
+abbrev value_in : {A : Type 0} → A → Result A Refusal → A
+value_in z (Ok x) = x
+value_in z (Err f) = z
+
+pub refused_same : {A : Type 0} {f g : Refusal} → ◌≡◌ {A = Result A Refusal} (Err f) (Err g) → f ≡ g
+refused_same {f = f} e = ap (refusal_in f) e
+
+pub value_same : {A : Type 0} {x y : A} → ◌≡◌ {A = Result A Refusal} (Ok x) (Ok y) → x ≡ y
+value_same {x = x} e = ap (value_in x) e
 
 pub number_injective : (f g : Refusal) → number_of f ≡ number_of g → f ≡ g
-number_injective f g e = refused_same (check_injective (Refused f) (Refused g) e)
+number_injective f g e = refused_same {A = Unit {0}} (check_injective (Err f) (Err g) e)
 
-pub refused : {f : Refusal} → Refused f ≡ Passed → ⊥
+pub refused : {A : Type 0} {f : Refusal} {x : A} → ◌≡◌ {A = Result A Refusal} (Err f) (Ok x) → ⊥
 refused e = let clash : ◌≡◌ {A = ℕ} 0 1 = ap passes (sym e) in absurd (omega arith)
 
 pub no_number : (f : Refusal) → number_of f ≡ 0 → ⊥
-no_number f e = refused (check_injective (Refused f) Passed e)
+no_number f e = refused (check_injective (Err f) passed e)
 
 pub refused-left : (f : Refusal) (values old : List ℕ) → values_left (record { number = number_of f; values = values }) old ≡ old
 unfolding values_left
@@ -88,13 +95,13 @@ abbrev pub Others : Type 0 → List Refusal → ℕ → Type 0
 Others T [] n = T
 Others T (f ∷ fs) n = Others (T × (n ≡ number_of f → ⊥)) fs n
 
-among_passed : (T : Type 0) (fs : List Refusal) (n : ℕ) → Others T fs n → T × (check_among fs n ≡ Passed)
+among_passed : (T : Type 0) (fs : List Refusal) (n : ℕ) → Others T fs n → T × (check_among fs n ≡ passed)
 among_passed T [] n h = (h, refl)
 among_passed T (f ∷ fs) n h =
     let w = among_passed (T × (n ≡ number_of f → ⊥)) fs n h in
     (w.0.0, rw (ne_eqb n (number_of f) w.0.1) w.1)
 
-pub others_passed : (n : ℕ) → Others (Unit {0}) refusals n → check_of n ≡ Passed
+pub others_passed : (n : ℕ) → Others (Unit {0}) refusals n → check_of n ≡ passed
 others_passed n h = (among_passed (Unit {0}) refusals n h).1
 
 -- the greatest number of some refusals
@@ -102,11 +109,11 @@ abbrev pub greatest : List Refusal → ℕ
 greatest [] = 0
 greatest (f ∷ fs) = max (number_of f) (greatest fs)
 
-among_small : (fs : List Refusal) (n : ℕ) (f : Refusal) → check_among fs n ≡ Refused f → n ≤ greatest fs
+among_small : (fs : List Refusal) (n : ℕ) (f : Refusal) → check_among fs n ≡ Err f → n ≤ greatest fs
 among_small [] n f e = absurd (refused (sym e))
 among_small (g ∷ fs) n f e = go (eqb n (number_of g)) refl e (λ q. among_small fs n f q)
   where
-    go : (b : Bool) → eqb n (number_of g) ≡ b → cond b (Refused g) (check_among fs n) ≡ Refused f → (check_among fs n ≡ Refused f → n ≤ greatest fs)
+    go : (b : Bool) → eqb n (number_of g) ≡ b → cond b (Err g) (check_among fs n) ≡ Err f → (check_among fs n ≡ Err f → n ≤ greatest fs)
         → n ≤ max (number_of g) (greatest fs)
     go true same e more = omega (arith, eqb-true n (number_of g) same)
     go false other e more = omega (arith, more e)

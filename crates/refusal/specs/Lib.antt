@@ -1,10 +1,9 @@
 -- 'What is refused' of document 01, with the numbers that document 02 adds: the number of each refusal, the refusal with a
 -- number, and which of several applies.
-use Rattle.std.specs.Prelude.{ℕ, Bool, true, false, cond, List, [], ◌∷◌, eqb}
+use Rattle.std.specs.Prelude.{ℕ, Bool, true, false, cond, List, [], ◌∷◌, eqb, ◌≡◌, Result, Ok, Err, MatchResult}
 use Rattle.refusal.specs.declared.Refusal.{Refusal}
+use Rattle.refusal.specs.declared.NoRefusal.{NoRefusal}
 use declared.Refusal.TheVariants.*
-use Rattle.refusal.specs.declared.Check.{Check}
-use Rattle.refusal.specs.declared.Check.TheVariants.{Passed, Refused}
 
 -- the number in the list 'What is refused'
 abbrev pub number_of : Refusal → ℕ
@@ -70,36 +69,52 @@ refusals =
     RingState ∷ TraceLength ∷ TableShort ∷ OutputShort ∷ PaddingSet ∷ CallElsewhere ∷
     OperandKind ∷ ArgumentKind ∷ []
 
+-- what judging input comes to: nothing wrong, or the first refusal that applies
+abbrev pub Check : Type 0
+Check = Result (Unit {0}) Refusal
+
+abbrev pub passed : Check
+passed = Ok tt
+
+-- what an answer that may be refused says of the check
+abbrev pub told : {A : Type 0} → Result A Refusal → Check
+told (Ok x) = passed
+told (Err f) = Err f
+
 -- the number of a check's answer; 0 stands for no refusal
 abbrev pub check_number : Check → ℕ
-check_number Passed = 0
-check_number (Refused f) = number_of f
+check_number (Ok u) = 0
+check_number (Err f) = number_of f
 
 -- the one of some refusals that has a number
 abbrev pub check_among : List Refusal → ℕ → Check
-check_among [] n = Passed
-check_among (f ∷ fs) n = cond (eqb n (number_of f)) (Refused f) (check_among fs n)
+check_among [] n = passed
+check_among (f ∷ fs) n = cond (eqb n (number_of f)) (Err f) (check_among fs n)
 
 -- the check with a number; what is no refusal's number, as 0, stands for no refusal
 abbrev pub check_of : ℕ → Check
 check_of n = check_among refusals n
 
+-- what asking for the refusal with a number answers: that refusal, or that no refusal has the number
+abbrev pub Numbers : ℕ → Result Refusal NoRefusal → Type 0
+Numbers n r = MatchResult r (λ f. check_of n ≡ Err f) (λ e. (e.0 ≡ n) × (check_of n ≡ passed))
+
 -- one entry of the list: the refusal, where what it names is the case
 abbrev pub refuse_if : Bool → Refusal → Check
-refuse_if true f = Refused f
-refuse_if false f = Passed
+refuse_if true f = Err f
+refuse_if false f = passed
 
 -- 'in rising order', 23 'directly after 3 for records, after 20 for lent traces', 24 'after 17', 25 and 26 'in the place of 16': the
 -- first check that refuses decides
 infixr 20 ◌then◌
 abbrev pub ◌then◌ : Check → Check → Check
-◌then◌ Passed next = next
-◌then◌ (Refused f) next = Refused f
+◌then◌ (Ok u) next = next
+◌then◌ (Err f) next = Err f
 
 -- what an operation leaves: the new content where nothing is refused; 'a refusal changes neither lent memory nor state'
 abbrev pub changed_if : {A : Type 0} → Check → A → A → A
-changed_if Passed new old = new
-changed_if (Refused f) new old = old
+changed_if (Ok u) new old = new
+changed_if (Err f) new old = old
 
 -- ---- Answers
 
@@ -116,8 +131,8 @@ refused_as f = record { number = number_of f; values = [] }
 
 -- what an operation answers: its values where nothing is refused, else the number of the refusal
 abbrev pub answer_if : Check → List ℕ → Answer
-answer_if Passed values = answered values
-answer_if (Refused f) values = refused_as f
+answer_if (Ok u) values = answered values
+answer_if (Err f) values = refused_as f
 
 -- what memory lent for the values then holds: a refusal leaves what was there
 unfoldable pub values_left : Answer → List ℕ → List ℕ

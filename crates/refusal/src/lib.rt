@@ -3,121 +3,97 @@
 #![tactic(auto)]
 
 ghost use Rattle.std.specs.Prelude.{◌≡◌};
-ghost use Rattle.refusal.specs.{number_of, check_number, check_of};
+ghost use Rattle.refusal.specs.{number_of, check_number, Numbers};
 
 // What is wrong, in the order of the numbers.
-#[derive(Clone, Copy)]
+#[derive(Clone, Copy, Debug, PartialEq, Eq)]
 pub enum Refusal {
-    TrailerMissing,
-    MarkOrFormat,
-    TrailerFields,
-    VerdictOrPasses,
-    ProgramLength,
-    FunctionCount,
-    HeaderCut,
-    ParameterKinds,
-    BodyLength,
-    BytesAfterFunctions,
-    MainKind,
-    BodyEnds,
-    TooDeep,
-    ListConstructor,
-    UnknownByte,
-    WrongKind,
-    BytesAfterExpression,
-    RingLength,
-    RingState,
-    TraceLength,
-    TableShort,
-    OutputShort,
-    PaddingSet,
-    CallElsewhere,
-    OperandKind,
-    ArgumentKind,
+    TrailerMissing = 1,
+    MarkOrFormat = 2,
+    TrailerFields = 3,
+    VerdictOrPasses = 4,
+    ProgramLength = 5,
+    FunctionCount = 6,
+    HeaderCut = 7,
+    ParameterKinds = 8,
+    BodyLength = 9,
+    BytesAfterFunctions = 10,
+    MainKind = 11,
+    BodyEnds = 12,
+    TooDeep = 13,
+    ListConstructor = 14,
+    UnknownByte = 15,
+    WrongKind = 16,
+    BytesAfterExpression = 17,
+    RingLength = 18,
+    RingState = 19,
+    TraceLength = 20,
+    TableShort = 21,
+    OutputShort = 22,
+    PaddingSet = 23,
+    CallElsewhere = 24,
+    OperandKind = 25,
+    ArgumentKind = 26,
 }
 
 // The number of a refusal in the list.
-pub fn number(refusal: Refusal) -> u32
-    ensures { result ≡ number_of refusal }
-{
-    match refusal {
-        Refusal::TrailerMissing => 1,
-        Refusal::MarkOrFormat => 2,
-        Refusal::TrailerFields => 3,
-        Refusal::VerdictOrPasses => 4,
-        Refusal::ProgramLength => 5,
-        Refusal::FunctionCount => 6,
-        Refusal::HeaderCut => 7,
-        Refusal::ParameterKinds => 8,
-        Refusal::BodyLength => 9,
-        Refusal::BytesAfterFunctions => 10,
-        Refusal::MainKind => 11,
-        Refusal::BodyEnds => 12,
-        Refusal::TooDeep => 13,
-        Refusal::ListConstructor => 14,
-        Refusal::UnknownByte => 15,
-        Refusal::WrongKind => 16,
-        Refusal::BytesAfterExpression => 17,
-        Refusal::RingLength => 18,
-        Refusal::RingState => 19,
-        Refusal::TraceLength => 20,
-        Refusal::TableShort => 21,
-        Refusal::OutputShort => 22,
-        Refusal::PaddingSet => 23,
-        Refusal::CallElsewhere => 24,
-        Refusal::OperandKind => 25,
-        Refusal::ArgumentKind => 26,
+impl From<Refusal> for u32 {
+    ghost from_gives = { λ refusal n. n ≡ number_of refusal };
+
+    fn from(refusal: Refusal) -> u32 {
+        refusal as u32
     }
 }
 
-// What judging input comes to: nothing wrong, or the first refusal that applies.
-#[derive(Clone, Copy)]
-pub enum Check {
-    Passed,
-    Refused(Refusal),
-}
-
-// The number of the refusal, or 0 where there is none.
-pub fn check_number(check: Check) -> u32
+// The number of the refusal that judging input came to, or 0 where nothing is wrong.
+pub fn check_number(check: Result<(), Refusal>) -> u32
     ensures { result ≡ check_number check }
 {
     match check {
-        Check::Passed => 0,
-        Check::Refused(refusal) => number(refusal),
+        Ok(()) => 0,
+        Err(refusal) => u32::from(refusal),
     }
 }
 
-// The refusal with a number; 0, and what is no refusal's number, stand for none.
-pub fn numbered(number: usize) -> Check
-    ensures { result ≡ check_of number }
-{
-    match number {
-        1 => Check::Refused(Refusal::TrailerMissing),
-        2 => Check::Refused(Refusal::MarkOrFormat),
-        3 => Check::Refused(Refusal::TrailerFields),
-        4 => Check::Refused(Refusal::VerdictOrPasses),
-        5 => Check::Refused(Refusal::ProgramLength),
-        6 => Check::Refused(Refusal::FunctionCount),
-        7 => Check::Refused(Refusal::HeaderCut),
-        8 => Check::Refused(Refusal::ParameterKinds),
-        9 => Check::Refused(Refusal::BodyLength),
-        10 => Check::Refused(Refusal::BytesAfterFunctions),
-        11 => Check::Refused(Refusal::MainKind),
-        12 => Check::Refused(Refusal::BodyEnds),
-        13 => Check::Refused(Refusal::TooDeep),
-        14 => Check::Refused(Refusal::ListConstructor),
-        15 => Check::Refused(Refusal::UnknownByte),
-        16 => Check::Refused(Refusal::WrongKind),
-        17 => Check::Refused(Refusal::BytesAfterExpression),
-        18 => Check::Refused(Refusal::RingLength),
-        19 => Check::Refused(Refusal::RingState),
-        20 => Check::Refused(Refusal::TraceLength),
-        21 => Check::Refused(Refusal::TableShort),
-        22 => Check::Refused(Refusal::OutputShort),
-        23 => Check::Refused(Refusal::PaddingSet),
-        24 => Check::Refused(Refusal::CallElsewhere),
-        25 => Check::Refused(Refusal::OperandKind),
-        26 => Check::Refused(Refusal::ArgumentKind),
-        _ => Check::Passed,
+// A number that no refusal has, as 0.
+#[derive(Clone, Copy, Debug, PartialEq, Eq)]
+pub struct NoRefusal(pub usize);
+
+// The refusal with a number.
+impl TryFrom<usize> for Refusal {
+    type Error = NoRefusal;
+
+    ghost try_from_gives = { Numbers };
+
+    fn try_from(number: usize) -> Result<Refusal, NoRefusal> {
+        match number {
+            1 => Ok(Refusal::TrailerMissing),
+            2 => Ok(Refusal::MarkOrFormat),
+            3 => Ok(Refusal::TrailerFields),
+            4 => Ok(Refusal::VerdictOrPasses),
+            5 => Ok(Refusal::ProgramLength),
+            6 => Ok(Refusal::FunctionCount),
+            7 => Ok(Refusal::HeaderCut),
+            8 => Ok(Refusal::ParameterKinds),
+            9 => Ok(Refusal::BodyLength),
+            10 => Ok(Refusal::BytesAfterFunctions),
+            11 => Ok(Refusal::MainKind),
+            12 => Ok(Refusal::BodyEnds),
+            13 => Ok(Refusal::TooDeep),
+            14 => Ok(Refusal::ListConstructor),
+            15 => Ok(Refusal::UnknownByte),
+            16 => Ok(Refusal::WrongKind),
+            17 => Ok(Refusal::BytesAfterExpression),
+            18 => Ok(Refusal::RingLength),
+            19 => Ok(Refusal::RingState),
+            20 => Ok(Refusal::TraceLength),
+            21 => Ok(Refusal::TableShort),
+            22 => Ok(Refusal::OutputShort),
+            23 => Ok(Refusal::PaddingSet),
+            24 => Ok(Refusal::CallElsewhere),
+            25 => Ok(Refusal::OperandKind),
+            26 => Ok(Refusal::ArgumentKind),
+            _ => Err(NoRefusal(number)),
+        }
     }
 }

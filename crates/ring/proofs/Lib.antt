@@ -1,7 +1,6 @@
 pub mod Round
 pub mod Held
 pub mod Checks
-pub mod Answers
 pub mod Written
 pub mod Sequence
 pub mod Trace

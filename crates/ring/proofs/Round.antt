@@ -1,21 +1,19 @@
 -- Laws of lists that go round, over any element:
 --   length_last, last-all        the last k of a list: how many, and all of it
 --   last-append                  only the last of what was there bears on the last of a longer list
---   length-around, around_at     the elements going round from a place
+--   length-around                the elements going round from a place
 --   around-set                   storing at the place and stepping on drops the first and adds one at the end
 --   last_step                    what that does to the last ones
 use mathlib.Core.Path.{◌≡◌, refl, sym, ap, ◌∙◌}
 use mathlib.Core.Bool.{Bool, true, false}
 use mathlib.Core.List.{List, [], ◌∷◌, ◌++◌, append_assoc, append-nil}
-use Prim.Native.Nat.{ℕ, suc, ◌+◌, ◌*◌, ◌-◌, ◌%◌, ◌<◌, ◌≤◌, min}
-use native.Mathlib.Nat.{mod-eq_of_lt}
+use Prim.Native.Nat.{ℕ, suc, ◌+◌, ◌-◌, ◌<◌, ◌≤◌, min}
 use native.Mathlib.Numerals.{add-one}
 use native.Mathlib.Omega.{arith}
-use lib.Arith.{digits_mod}
-use lib.Dec.{eqb, ltb}
-use lib.ListN.{length, get_or, take, drop, set, length-append, length-take, length-drop, length-set, get_or-append}
-use lib.Seq.{drop-cons, drop-length, take-length, drop-append-le, drop-drop, drop-set-lt, take-suc-set, get_or-take, get_or-drop, get_or-append-add}
-use borrow.Author.Tests.{eqb-true, ltb-true, ltb-false}
+use lib.Dec.{eqb}
+use lib.ListN.{length, take, drop, set, length-append, length-take, length-drop, length-set}
+use lib.Seq.{drop-cons, drop-length, take-length, drop-append-le, drop-drop, drop-set-lt, take-suc-set}
+use borrow.Author.Tests.{eqb-true}
 use Rattle.ring.specs.{around, last_of, following}
 
 module _ {A : Type 0} where
@@ -44,34 +42,6 @@ module _ {A : Type 0} where
   pub length-around : (l : List A) (p : ℕ) → p < length l → length (around l p) ≡ length l
   unfolding around
   length-around l p h = omega (arith, length-append (drop p l) (take p l), length-drop p l, length-take p l)
-
-  pub around_at : (l : List A) (p j : ℕ) (z : A) → p < length l → j < length l → get_or (around l p) j z ≡ get_or l ((p + j) % length l) z
-  unfolding around
-  around_at l p j z hp hj = go (ltb j (length l - p)) refl
-    where
-      at : {m n : ℕ} → m ≡ n → get_or l m z ≡ get_or l n z
-      at e = ap (λ (m : ℕ). get_or l m z) e
-
-      front : j < length l - p → get_or (drop p l ++ take p l) j z ≡ get_or l ((p + j) % length l) z
-      front h =
-          get_or-append (drop p l) (take p l) z j (omega (arith, length-drop p l))
-          ∙ get_or-drop p l j z
-          ∙ at (sym (mod-eq_of_lt (omega arith)))
-
-      back : length l - p ≤ j → get_or (drop p l ++ take p l) j z ≡ get_or l ((p + j) % length l) z
-      back h =
-          let k = j - (length l - p) in
-          let e : j ≡ length (drop p l) + k = omega (arith, length-drop p l) in
-          let m : p + j ≡ 1 * length l + k = omega arith in
-          let r : (p + j) % length l ≡ k = ap (λ (x : ℕ). x % length l) m ∙ digits_mod 1 (omega arith) in
-          ap (λ (x : ℕ). get_or (drop p l ++ take p l) x z) e
-          ∙ get_or-append-add (drop p l) (take p l) k z
-          ∙ get_or-take p l k z (omega arith)
-          ∙ at (sym r)
-
-      go : (b : Bool) → ltb j (length l - p) ≡ b → get_or (drop p l ++ take p l) j z ≡ get_or l ((p + j) % length l) z
-      go true e = front (ltb-true j (length l - p) e)
-      go false e = back (ltb-false j (length l - p) e)
 
   around-whole : (l : List A) → around l 0 ≡ around l (length l)
   unfolding around

@@ -11,7 +11,6 @@ use lib.ListN.{length, set, length-set}
 use borrow.Author.Tests.{eqb-false}
 use Rattle.trace.specs.{most_samples, bytes_for, packed_into}
 use Rattle.ring.specs.declared.Ring.{Ring}
-use Rattle.ring.specs.declared.Taken.TheVariants as taken
 use Rattle.ring.specs.{new_ring, reads, last_of, held, sample_byte, following, stepped, slots_after, ring_after, output_after, taking, Lent, add_all, TakenAs, YieldsLast}
 use Rattle.ring.specs.Place.{Sound}
 use Rattle.ring.proofs.Round.{last-all, last-append}
@@ -76,7 +75,7 @@ taken_as lent bits out k room =
     let size : lent.ring.count ≡ length bits = sym (length-held lent.slots lent.ring k.sound) ∙ ap length k.holds in
     let enough : bytes_for lent.ring.count ≤ length out = rw size room in
     let p = room_enough n lent.ring (length out) (check_passed n lent.ring k.sound) enough in
-    record { accepted = p; told = rw p (ap taken.Samples size); packs = rw p (ap (packed_into out) k.holds) }
+    record { accepted = p; told = rw (p, size); packs = rw p (ap (packed_into out) k.holds) }
 
 pub yields_last : (slots samples : List ℕ) → 0 < length slots → length slots ≤ most_samples → YieldsLast slots samples
 yields_last slots samples some few =

@@ -9,7 +9,7 @@ use Prim.Native.Nat.{ℕ, ◌≤◌}
 use native.Mathlib.Omega.{arith}
 use lib.ListN.{length, take, drop}
 use lib.Seq.{take_at}
-use Rattle.refusal.specs.declared.Check.TheVariants.{Passed}
+use Rattle.refusal.specs.{passed}
 use Rattle.trace.specs.{most_samples, bytes_for, pack, padding_set, packed_into}
 use Rattle.trace.proofs.Packing.{length-pack}
 use Rattle.trace.proofs.Padding.{packed_clean}
@@ -19,13 +19,13 @@ use Rattle.ring.specs.Place.{Sound}
 use Rattle.ring.proofs.Held.{length-held}
 use Rattle.ring.proofs.Checks.{room-sound}
 
-module _ (slots : List ℕ) (ring : Ring) (out : List ℕ) (passed : take_check (length slots) ring (length out) ≡ Passed) where
+module _ (slots : List ℕ) (ring : Ring) (out : List ℕ) (taking : take_check (length slots) ring (length out) ≡ passed) where
   -- the bytes that are the trace
   abbrev taken : List ℕ
   taken = take (bytes_for ring.count) (output_after slots ring out)
 
   sound : Sound (length slots) ring
-  sound = (room-sound (length slots) ring (length out) passed).0
+  sound = (room-sound (length slots) ring (length out) taking).0
 
   count : length (held slots ring) ≡ ring.count
   count = length-held slots ring sound
@@ -35,7 +35,7 @@ module _ (slots : List ℕ) (ring : Ring) (out : List ℕ) (passed : take_check 
   taken_bytes =
       let bits = held slots ring in
       let size : length (pack bits) ≡ bytes_for ring.count = length-pack bits ∙ ap bytes_for count in
-      rw passed (take_at (pack bits) (drop (bytes_for (length bits)) out) (bytes_for ring.count) size)
+      rw taking (take_at (pack bits) (drop (bytes_for (length bits)) out) (bytes_for ring.count) size)
 
   pub taken-trace : (ring.count ≤ most_samples) × (length taken ≡ bytes_for ring.count) × (padding_set taken ring.count ≡ false)
   taken-trace =

@@ -1,24 +1,43 @@
--- Laws of the loop that packs what a ring holds: with `back` samples to go, the output holds those before them
---   written_start      before the first turn
+-- Laws of the loop that packs what a ring holds: after k turns, the output holds the first k samples
+--   going_round        what the loop goes over
 --   written_more       a turn
 --   written_end        after the last turn
---   written_length     the output keeps its length
 use mathlib.Core.Path.{◌≡◌, sym, ap, ◌∙◌}
-use mathlib.Core.Bool.{Bool}
+use mathlib.Core.Bool.{false}
 use mathlib.Core.List.{List}
 use Prim.Native.Nat.{ℕ, ◌+◌, ◌-◌, ◌<◌, ◌≤◌}
 use native.Mathlib.Omega.{arith}
-use lib.ListN.{length, get_or, take}
+use lib.ListN.{length, get_or, take, drop, length-map}
 use lib.Seq.{take_all}
+use Rattle.std.specs.declared.iter.Enumerate.{Enumerate}
+use Rattle.std.specs.declared.iter.Skip.{Skip}
+use Rattle.std.specs.declared.iter.Chain.{Chain}
+use Rattle.std.specs.declared.slice.Iter.{Iter}
+use Rattle.std.specs.Slice.Iter.{iter_rest}
+use Rattle.std.specs.Iterator.Adapters.{enumerate_source, enumerate_count, enumerate_steps, skip_source, skip_count, skip_steps, chain_first, chain_second, chain_first_done, chain_second_done, chain_steps}
+use Rattle.std.specs.List.{enumerate_from}
+use Rattle.std.proofs.iter.Yields.{fronts}
+use Rattle.std.proofs.lemmas.Iterator.{YieldsList, YieldsList-from_slice}
+use Rattle.std.proofs.lemmas.Iterator.Adapters.{YieldsList-from_skip}
+use Rattle.std.proofs.lemmas.Iterator.Consumers.{YieldsList-from_enumerate, YieldsList-from_chain}
+use Rattle.std.proofs.lemmas.List.{get_or-map}
+use Rattle.std.proofs.lemmas.List.FromFn.{length-enumerate_from, get_or-enumerate_from}
 use Rattle.trace.specs.{bytes_for, packed_into, with_sample}
-use Rattle.trace.proofs.Packing.{into_start, into_more, length_into}
+use Rattle.trace.proofs.Packing.{into_more}
 use Rattle.ring.specs.declared.Ring.{Ring}
 use Rattle.ring.specs.{reads, held}
-use Rattle.ring.specs.Place.{Sound, place_before}
-use Rattle.ring.proofs.Held.{length-held, held_at}
+use Rattle.ring.specs.Place.{Sound}
+use Rattle.ring.proofs.Held.{length-held, oldest_first, held_bytes}
 
-pub written_start : (slots : List ℕ) (ring : Ring) (out : List ℕ) → out ≡ packed_into out (take (ring.count - ring.count) (held slots ring))
-written_start slots ring out = let none : ring.count - ring.count ≡ 0 = omega arith in rw none (into_start out)
+pub going_round : (slots : List ℕ) (ring : Ring) (s : Enumerate (Skip (Chain (Iter ℕ) (Iter ℕ)))) → enumerate_count s ≡ 0
+    → skip_count (enumerate_source s) ≡ length slots - ring.count
+    → iter_rest (chain_first (skip_source (enumerate_source s))) ≡ take (length slots - ring.next) (drop ring.next slots)
+    → iter_rest (chain_second (skip_source (enumerate_source s))) ≡ take ring.next slots
+    → chain_first_done (skip_source (enumerate_source s)) ≡ false → chain_second_done (skip_source (enumerate_source s)) ≡ false
+    → YieldsList {B = ℕ × ℕ} (enumerate_steps (skip_steps (chain_steps fronts fronts))) (λ p. (p.0, p.1.now)) s (enumerate_from 0 (oldest_first slots ring))
+unfolding oldest_first
+going_round slots ring s n k a b more others =
+    YieldsList-from_enumerate (YieldsList-from_skip (length slots - ring.count) (YieldsList-from_chain (YieldsList-from_slice _ a) (YieldsList-from_slice _ b) more others) k) n
 
 module _ (slots : List ℕ) (ring : Ring) (out₀ : List ℕ) (pre : Sound (length slots) ring × (bytes_for ring.count ≤ length out₀)) where
   size : length (held slots ring) ≡ ring.count
@@ -27,21 +46,20 @@ module _ (slots : List ℕ) (ring : Ring) (out₀ : List ℕ) (pre : Sound (leng
   room : bytes_for (length (held slots ring)) ≤ length out₀
   room = rw size pre.1
 
-  pub written_more : {out out' : List ℕ} {back at : ℕ} {sample : Bool} → 0 < back → back ≤ ring.count
-      → out ≡ packed_into out₀ (take (ring.count - back) (held slots ring)) → at ≡ place_before (length slots) ring.next back
-      → sample ≡ reads (get_or slots at 0) → out' ≡ with_sample out (ring.count - back) sample
-      → out' ≡ packed_into out₀ (take (ring.count - (back - 1)) (held slots ring))
-  written_more {back = back} some h e p b w =
-      let bit = b ∙ ap (λ (n : ℕ). reads (get_or slots n 0)) p ∙ sym (held_at slots ring pre.0 back some h) in
-      let i : ring.count - back + 1 ≡ ring.count - (back - 1) = omega arith in
-      w
-      ∙ rw (e, bit) (into_more out₀ (held slots ring) (ring.count - back) (omega (arith, size)) room)
-      ∙ ap (λ (n : ℕ). packed_into out₀ (take n (held slots ring))) i
+  pub written_more : {out out' : List ℕ} {k i byte : ℕ} → out ≡ packed_into out₀ (take k (held slots ring))
+      → (k < length (enumerate_from 0 (oldest_first slots ring))) × ((i, byte) ≡ get_or (enumerate_from 0 (oldest_first slots ring)) k (i, byte))
+      → out' ≡ with_sample out i (reads byte) → out' ≡ packed_into out₀ (take (k + 1) (held slots ring))
+  written_more {k = k} {i = i} {byte = byte} e t w =
+      let bytes = oldest_first slots ring in
+      let h : k < length bytes = rw length-enumerate_from at t.0 in
+      let at = t.1 ∙ get_or-enumerate_from 0 bytes k (i, byte) h in
+      let first : i ≡ 0 + k = ap (λ (p : ℕ × ℕ). p.0) at in
+      let place : i ≡ k = omega arith in
+      let bits = held_bytes slots ring pre.0.within in
+      let bit : reads byte ≡ get_or (held slots ring) k false =
+      ap reads (ap (λ (p : ℕ × ℕ). p.1) at) ∙ sym (rw bits (get_or-map reads bytes k byte false h)) in
+      w ∙ rw (e, place, bit) (into_more out₀ (held slots ring) k (rw (bits, length-map bytes reads) h) room)
 
-  pub written_end : {out : List ℕ} {back : ℕ} → back ≤ 0 → out ≡ packed_into out₀ (take (ring.count - back) (held slots ring))
+  pub written_end : {out : List ℕ} {k : ℕ} → k ≡ length (enumerate_from 0 (oldest_first slots ring)) → out ≡ packed_into out₀ (take k (held slots ring))
       → out ≡ packed_into out₀ (held slots ring)
-  written_end {back = back} h e =
-      e ∙ ap (packed_into out₀) (take_all (ring.count - back) (held slots ring) (omega (arith, size)))
-
-  pub written_length : {out : List ℕ} → out ≡ packed_into out₀ (held slots ring) → length out ≡ length out₀
-  written_length e = ap length e ∙ length_into out₀ (held slots ring) room
+  written_end {k = k} h e = e ∙ ap (packed_into out₀) (take_all k (held slots ring) (rw (h, length-enumerate_from, held_bytes slots ring pre.0.within, length-map) (omega arith)))

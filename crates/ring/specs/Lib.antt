@@ -1,17 +1,13 @@
 -- The ring of document 01, 'Ring and trace': what it holds, what adding a sample and taking the trace
 -- do, and what the ring owes over any list of samples (`YieldsLast`).
 pub mod Place
-use Rattle.std.specs.Prelude.{ℕ, ◌+◌, ◌-◌, ◌≤◌, min, ◌≡◌, Bool, true, false, not, ◌||◌, List, [], ◌∷◌, ◌++◌, map, eqb, leb, ltb, length, take, drop, set}
+use Rattle.std.specs.Prelude.{ℕ, ◌+◌, ◌-◌, ◌≤◌, min, ◌≡◌, Bool, true, false, not, ◌||◌, List, [], ◌∷◌, ◌++◌, map, eqb, leb, ltb, length, take, drop, set, Result, Ok, Err}
 use Rattle.refusal.specs.declared.Refusal.TheVariants.{RingLength, RingState, OutputShort}
-use Rattle.refusal.specs.declared.Check.{Check}
-use Rattle.refusal.specs.declared.Check.TheVariants.{Passed, Refused}
-use Rattle.refusal.specs.{number_of, refuse_if, ◌then◌, changed_if, Answer, answered, refused_as}
+use Rattle.refusal.specs.declared.Refusal.{Refusal}
+use Rattle.refusal.specs.{Check, passed, number_of, refuse_if, ◌then◌, changed_if, Answer, answered, refused_as}
 use Rattle.trace.specs.{most_samples, digit, bytes_for, packed_into}
 use Rattle.ring.specs.declared.Ring.{Ring}
-use Rattle.ring.specs.declared.Added.{Added}
-use Rattle.ring.specs.declared.Added.TheVariants as added
-use Rattle.ring.specs.declared.Taken.{Taken}
-use Rattle.ring.specs.declared.Taken.TheVariants as taken
+use Rattle.ring.specs.declared.NotAdded.{NotAdded}
 
 -- ---- What a ring holds
 
@@ -64,21 +60,21 @@ slots_after slots ring sample = changed_if (ring_check (length slots) ring) (set
 unfoldable pub ring_after : ℕ → Ring → Ring
 ring_after len ring = changed_if (ring_check len ring) (stepped len ring) ring
 
-abbrev pub added_by : Check → Ring → Ring → Added
-added_by Passed new old = added.Stored new
-added_by (Refused f) new old = added.Refused f old
+abbrev pub added_by : Check → Ring → Ring → Result Ring NotAdded
+added_by (Ok u) new old = Ok new
+added_by (Err f) new old = Err (record { refusal = f; ring = old })
 
 -- what adding a sample answers: the new state, or the refusal with the state as it was
-unfoldable pub adding : ℕ → Ring → Added
+unfoldable pub adding : ℕ → Ring → Result Ring NotAdded
 adding len ring = added_by (ring_check len ring) (stepped len ring) ring
 
 -- the answer in numbers: either way the state that the ring now has
 abbrev pub ring_values : Ring → List ℕ
 ring_values ring = ring.next ∷ ring.count ∷ []
 
-abbrev pub added_answer : Added → Answer
-added_answer (added.Stored ring) = answered (ring_values ring)
-added_answer (added.Refused f ring) = record { number = number_of f; values = ring_values ring }
+abbrev pub added_answer : Result Ring NotAdded → Answer
+added_answer (Ok ring) = answered (ring_values ring)
+added_answer (Err kept) = record { number = number_of kept.refusal; values = ring_values kept.ring }
 
 -- ---- Taking the trace
 
@@ -91,18 +87,18 @@ unfoldable pub output_after : List ℕ → Ring → List ℕ → List ℕ
 output_after slots ring out =
     changed_if (take_check (length slots) ring (length out)) (packed_into out (held slots ring)) out
 
-abbrev pub taken_by : Check → ℕ → Taken
-taken_by Passed n = taken.Samples n
-taken_by (Refused f) n = taken.Refused f
+abbrev pub taken_by : Check → ℕ → Result ℕ Refusal
+taken_by (Ok u) n = Ok n
+taken_by (Err f) n = Err f
 
 -- what taking the trace answers: how many samples it has
-unfoldable pub taking : ℕ → Ring → ℕ → Taken
+unfoldable pub taking : ℕ → Ring → ℕ → Result ℕ Refusal
 taking len ring room = taken_by (take_check len ring room) ring.count
 
 -- the answer in numbers
-abbrev pub taken_answer : Taken → Answer
-taken_answer (taken.Samples n) = answered (n ∷ [])
-taken_answer (taken.Refused f) = refused_as f
+abbrev pub taken_answer : Result ℕ Refusal → Answer
+taken_answer (Ok n) = answered (n ∷ [])
+taken_answer (Err f) = refused_as f
 
 -- ---- Adding samples one after the other
 
@@ -119,8 +115,8 @@ add_all l (sample ∷ samples) =
 
 -- taking the trace of a ring into an output is not refused, tells so many samples and packs them
 pub record TakenAs (lent : Lent) (out : List ℕ) (bits : List Bool) : Type 0 where
-  pub accepted : take_check (length lent.slots) lent.ring (length out) ≡ Passed
-  pub told : taking (length lent.slots) lent.ring (length out) ≡ taken.Samples (length bits)
+  pub accepted : take_check (length lent.slots) lent.ring (length out) ≡ passed
+  pub told : taking (length lent.slots) lent.ring (length out) ≡ Ok (length bits)
   pub packs : output_after lent.slots lent.ring out ≡ packed_into out bits
 
 -- the ring after adding samples to a new one over some slots, and the last of them, as many as fit
@@ -134,6 +130,6 @@ last_added slots samples = last_of (length slots) (map reads samples)
 -- a new ring. It is sound, so adding to it is not refused; it holds the last of them, as many as fit; and
 -- its trace, taken into any output with room for it, is those samples packed
 pub record YieldsLast (slots samples : List ℕ) : Type 0 where
-  pub sound : ring_check (length (filled slots samples).slots) (filled slots samples).ring ≡ Passed
+  pub sound : ring_check (length (filled slots samples).slots) (filled slots samples).ring ≡ passed
   pub holds : held (filled slots samples).slots (filled slots samples).ring ≡ last_added slots samples
   pub taken : (out : List ℕ) → bytes_for (length (last_added slots samples)) ≤ length out → TakenAs (filled slots samples) out (last_added slots samples)

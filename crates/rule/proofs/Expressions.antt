@@ -15,15 +15,20 @@ use Rattle.semantics.specs.declared.Contact.{Contact}
 use Rattle.semantics.specs.declared.Contact.TheVariants.{Ram, Guard}
 use Rattle.semantics.specs.declared.Sort.{Sort}
 use Rattle.semantics.specs.declared.Sort.TheVariants.{One, Two}
-use Rattle.semantics.specs.Language.{Kind, truth, list, Op, hd, tl, null, Expr, constant, empty, param, op, ifte, call, Args, no_args, arg, Function, Program}
-use Rattle.semantics.specs.Language.{Demand, only, allows, op_allowed, operand_demand, Meets, MeetAll}
+use Rattle.semantics.specs.declared.Kind.{Kind}
+use Rattle.semantics.specs.declared.Kind.TheVariants.{Truth as truth, List as list}
+use Rattle.semantics.specs.Language.{Op, hd, tl, null, Expr, constant, empty, param, op, ifte, call, Args, no_args, arg, Function, Program}
+use Rattle.semantics.specs.declared.Demand.{Demand}
+use Rattle.semantics.specs.declared.Demand.TheVariants.{Only as only}
+use Rattle.semantics.specs.Language.{allows, op_allowed, operand_demand, Meets, MeetAll}
 use Rattle.syntax.specs.declared.Node.{Node}
 use Rattle.syntax.specs.declared.Node.TheVariants as node
 use Rattle.syntax.specs.declared.Header.{Header}
 use Rattle.syntax.specs.Limits.{most_functions, most_params}
 use Rattle.rule.specs.Form.{op_byte, encode_expr, encode_args, depth, depth_all, has_contact, ExprOfSort, ArgsOfSort}
 use Rattle.syntax.specs.Bytes.{node_of}
-use Rattle.rule.specs.Reading.{got, onward, param_kinds, result_kind, Place, condition_place, operand_place, argument_place, apart, demanded, Reader, args_from, guard_empty_from, param_from, call_from, op_from, if_from, node_from, expr_from}
+use Rattle.rule.specs.declared.expression.Place.{Place}
+use Rattle.rule.specs.Reading.{got, onward, param_kinds, result_kind, condition_place, operand_place, argument_place, apart, demanded, Reader, args_from, guard_empty_from, param_from, call_from, op_from, if_from, node_from, expr_from}
 use Rattle.rule.proofs.NodeBytes.{ByteOf, node_false, node_true, node_empty, node_empty_guard, node_if, node_op, node_param, node_call, node_inv}
 use Rattle.rule.proofs.Parsing.{not-got, got_inv, allowed_inv, allowed_met, Onward, by, onward_inv}
 

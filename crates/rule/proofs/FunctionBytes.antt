@@ -7,6 +7,8 @@
 --   Bodies, bodies_read, bodies_heads, bodies_back
 --                          functions that are read are those that their headers and bodies are written as
 --   functions_inv          functions that are read: their bytes, within the limits and well-kinded
+use Rattle.refusal.specs.declared.Refusal.{Refusal}
+use Rattle.std.specs.Prelude.{Err, Ok, Result}
 use mathlib.Core.Path.{◌≡◌, refl, sym, ap, ◌∙◌, subst}
 use mathlib.Core.Bool.{true, false}
 use mathlib.Core.List.{List, [], ◌∷◌, ◌++◌, map, append_assoc, append-nil}
@@ -22,10 +24,9 @@ use Rattle.encoding.proofs.Low.{from_low_lem, low_from}
 use Rattle.semantics.specs.declared.Contact.TheVariants.{Ram, Guard}
 use Rattle.semantics.specs.declared.Sort.{Sort}
 use Rattle.semantics.specs.declared.Sort.TheVariants.{One, Two}
-use Rattle.semantics.specs.Language.{Expr, constant, empty, param, op, ifte, call, Function, Program, only, Meets, WellKinded}
+use Rattle.semantics.specs.declared.Demand.TheVariants.{Only as only}
+use Rattle.semantics.specs.Language.{Expr, constant, empty, param, op, ifte, call, Function, Program, Meets, WellKinded}
 use Rattle.syntax.specs.declared.Header.{Header}
-use Rattle.syntax.specs.declared.HeaderRead.{HeaderRead}
-use Rattle.syntax.specs.declared.HeaderRead.TheVariants.{Found, Refused}
 use Rattle.syntax.specs.Limits.{most_functions, most_body, most_depth}
 use Rattle.rule.specs.Form.{AreBytes, encode_expr, depth, kinds_byte, guard_byte, encode_function, encode_functions, ExprOfSort, Fits}
 use Rattle.syntax.specs.Bytes.{header_bytes, guard_byte_in, kinds_fault, guard_fault, length_fault, body_length, header_of}
@@ -88,7 +89,7 @@ function_raw Two f = refl
 
 header-passes : (s : Sort) (a k g size : ℕ) (bs : List ℕ) → kinds_fault a k ≡ false → guard_fault k g ≡ false → GuardOfSort s g → size < 65536
     → length_fault size (length bs) ≡ false
-    → header_of s (a ∷ k ∷ guard_bytes s g ++ (low_first 2 size ++ bs)) ≡ Found (record { params = a; kinds = k; guard = g; length = size })
+    → header_of s (a ∷ k ∷ guard_bytes s g ++ (low_first 2 size ++ bs)) ≡ Ok (record { params = a; kinds = k; guard = g; length = size })
 unfolding header_of low_first
 header-passes One a k g size bs p q z below r =
     let long : ltb (suc (suc (suc (suc (length bs))))) 4 ≡ false = le-ltb (suc (suc (suc (suc (length bs))))) 4 (omega arith) in
@@ -99,7 +100,7 @@ header-passes Two a k g size bs p q z below r =
     let rest : suc (suc (suc (suc (suc (length bs))))) - 5 ≡ length bs = omega arith in
     rw (long, p, q, rest, from_low_lem 2 size below, r)
 
-header_read : (s : Sort) (f : Function) (rest : List ℕ) → Fits s f → header_of s (encode_function s f ++ rest) ≡ Found (header_for f)
+header_read : (s : Sort) (f : Function) (rest : List ℕ) → Fits s f → header_of s (encode_function s f ++ rest) ≡ Ok (header_for f)
 header_read s f rest fit =
     let body = encode_expr f.body in
     let size = length body in
@@ -199,7 +200,7 @@ guard_in : (s : Sort) (bs : List ℕ) → GuardOfSort s (guard_byte_in s bs)
 guard_in One bs = refl
 guard_in Two bs = tt
 
-pub found-sound : (s : Sort) (bs : List ℕ) (h : Header) → header_of s bs ≡ Found h → Sound s (raw_at s bs h)
+pub found-sound : (s : Sort) (bs : List ℕ) (h : Header) → header_of s bs ≡ Ok h → Sound s (raw_at s bs h)
 found-sound s bs h e =
     let is = header_is s bs h e in
     let size = size_fits h.length (length bs - header_bytes s) (header-size s bs h is) in
@@ -226,17 +227,17 @@ header_bytes_lem Two bs h =
       ← drop-cons bs 0 0 (omega arith),
     )
 
-found_written : (s : Sort) (bs : List ℕ) (h : Header) → AreBytes bs → header_of s bs ≡ Found h
+found_written : (s : Sort) (bs : List ℕ) (h : Header) → AreBytes bs → header_of s bs ≡ Ok h
     → bs ≡ encode_raw s (raw_at s bs h) ++ drop h.length (drop (header_bytes s) bs)
 found_written s bs h are e =
     let is = header_is s bs h e in
     let two : low_first 2 (body_length s bs) ≡ get_or bs (header_bytes s - 2) 0 ∷ get_or bs (header_bytes s - 1) 0 ∷ [] = two_back _ _ (are _) (are _) in
     rw (raw_bytes s (raw_at s bs h) _, take-append-drop h.length (drop (header_bytes s) bs), is.same, two) (header_bytes_lem s bs is.long)
 
-raw_written : (s : Sort) (bs : List ℕ) (read : HeaderRead) → header_of s bs ≡ read → (x : Raw) (r : List ℕ) → AreBytes bs → raw_from s read bs ≡ got x r
+raw_written : (s : Sort) (bs : List ℕ) (read : Result Header Refusal) → header_of s bs ≡ read → (x : Raw) (r : List ℕ) → AreBytes bs → raw_from s read bs ≡ got x r
     → (bs ≡ encode_raw s x ++ r) × Sound s x × AreBytes r
-raw_written s bs (Refused f) e x r are q = absurd (not-got q)
-raw_written s bs (Found h) e x r are q =
+raw_written s bs (Err f) e x r are q = absurd (not-got q)
+raw_written s bs (Ok h) e x r are q =
     let same = got_inv q in
     rw (same.0, same.1)
     (found_written s bs h are e, found-sound s bs h e, bytes_drop h.length (drop (header_bytes s) bs) (bytes_drop (header_bytes s) bs are))

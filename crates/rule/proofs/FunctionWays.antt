@@ -4,6 +4,8 @@
 --   wrong_main            11
 --   bodies_refused        a body was refused
 --   all_passed            nothing was refused
+use Rattle.std.specs.Prelude.{Result, Ok, Err}
+use Rattle.refusal.specs.{Check, passed}
 use mathlib.Core.Path.{◌≡◌, refl, sym, ap, subst, ◌∙◌}
 use mathlib.Core.Bool.{Bool, true, false}
 use mathlib.Core.List.{List}
@@ -14,14 +16,11 @@ use lib.ListN.{length, drop, get_or}
 use borrow.Author.Tests.{eq-eqb, ne_eqb}
 use Rattle.refusal.specs.declared.Refusal.{Refusal}
 use Rattle.refusal.specs.declared.Refusal.TheVariants.{BytesAfterFunctions, MainKind}
-use Rattle.refusal.specs.declared.Check.{Check}
-use Rattle.refusal.specs.declared.Check.TheVariants.{Passed, Refused}
 use Rattle.refusal.proofs.Numbers.{refused_same}
 use Rattle.refusal.proofs.Numbers as numbers
 use Rattle.semantics.specs.declared.Sort.{Sort}
 use Rattle.semantics.specs.Language.{Program}
 use Rattle.rule.specs.declared.Outline.{Outline}
-use Rattle.rule.specs.declared.Judged.{Judged}
 use Rattle.rule.specs.declared.functions.Scan.{Scan}
 use Rattle.rule.specs.Reading.{Parsed, got, refused, onward, Raw, raws_from, headers, main_first, functions_from, bodies_from, check_from, apart}
 use Rattle.rule.specs.Outline.{judged_from}
@@ -37,21 +36,27 @@ pub record Read (s : Sort) (bytes : List ℕ) (count : ℕ) (scan : Scan) : Type
   pub end : scan.end ≡ length bytes - length rest
   pub means : CheckMeans s bytes count xs rest
 
-module _ (s : Sort) (bytes : List ℕ) (count : ℕ) (scan : Scan) (e : scan ≡ scan_from s (length bytes) (raws_from s count (drop 1 bytes))) where
-  pub scan_stopped : {f : Refusal} → scan.check ≡ Refused f → judged_from s (onward (raws_from s count (drop 1 bytes)) (bodies_from apart s)) ≡ judged_from
-      s (refused f)
-  scan_stopped {f} q = go (raws_from s count (drop 1 bytes)) (ap (λ (x : Scan). x.check) (sym e) ∙ q)
-    where
-      go : (p : Parsed (List Raw)) → (scan_from s (length bytes) p).check ≡ Refused f → judged_from s (onward p (bodies_from apart s)) ≡ judged_from s (refused f)
-      go (got xs rest) q = absurd (numbers.refused (sym q))
-      go (refused g) q = ap (λ (x : Refusal). judged_from s (refused x)) (refused_same q)
+-- the scan that an answer has
+abbrev scan_in : Scan → Result Scan Refusal → Scan
+scan_in z (Ok scan) = scan
+scan_in z (Err f) = z
 
-  pub scan_read : Counted bytes count → scan.check ≡ Passed → Read s bytes count scan
-  scan_read c q = go (raws_from s count (drop 1 bytes)) refl
+module _ (s : Sort) (bytes : List ℕ) (count : ℕ) (answer : Result Scan Refusal)
+    (e : answer ≡ scan_from s (length bytes) (raws_from s count (drop 1 bytes))) where
+  pub scan_stopped : {f : Refusal} → answer ≡ Err f → judged_from s (onward (raws_from s count (drop 1 bytes)) (bodies_from apart s)) ≡ Err f
+  scan_stopped {f} q = go (raws_from s count (drop 1 bytes)) (sym e ∙ q)
+    where
+      go : (p : Parsed (List Raw)) → scan_from s (length bytes) p ≡ Err f → judged_from s (onward p (bodies_from apart s)) ≡ Err f
+      go (got xs rest) q = absurd (numbers.refused (sym q))
+      go (refused g) q = ap (λ (x : Refusal). Err x) (refused_same q)
+
+  pub scan_read : Counted bytes count → {scan : Scan} → answer ≡ Ok scan → Read s bytes count scan
+  scan_read c {scan} q = go (raws_from s count (drop 1 bytes)) refl
     where
       go : (p : Parsed (List Raw)) → raws_from s count (drop 1 bytes) ≡ p → Read s bytes count scan
       go (got xs rest) r =
-          let same : scan ≡ scan_from s (length bytes) (got xs rest) = e ∙ ap (scan_from s (length bytes)) r in
+          let same : scan ≡ record { outline = raw_outline s xs; end = length bytes - length rest } =
+          ap (scan_in scan) (sym q ∙ e ∙ ap (scan_from s (length bytes)) r) in
           record {
             xs = xs;
             rest = rest;
@@ -60,11 +65,11 @@ module _ (s : Sort) (bytes : List ℕ) (count : ℕ) (scan : Scan) (e : scan ≡
             end = ap (λ (x : Scan). x.end) same;
             means = check_means s bytes count xs rest c.few c.some c.short r;
           }
-      go (refused f) r = absurd (numbers.refused (sym (ap (λ (x : Scan). x.check) (e ∙ ap (scan_from s (length bytes)) r)) ∙ q))
+      go (refused f) r = absurd (numbers.refused (sym (sym q ∙ e ∙ ap (scan_from s (length bytes)) r)))
 
 module _ {s : Sort} {bytes : List ℕ} {count : ℕ} {scan : Scan} (r : Read s bytes count scan) where
   pub bytes_after : scan.end < length bytes
-      → judged_from s (onward (raws_from s count (drop 1 bytes)) (bodies_from apart s)) ≡ judged_from s (refused BytesAfterFunctions)
+      → judged_from s (onward (raws_from s count (drop 1 bytes)) (bodies_from apart s)) ≡ Err BytesAfterFunctions
   bytes_after h =
       let some : length r.rest ≡ 0 → ⊥ = λ z. omega (arith, r.end) in
       rw (r.raws, ne_eqb _ _ some)
@@ -78,43 +83,33 @@ module _ {s : Sort} {bytes : List ℕ} {count : ℕ} {scan : Scan} (r : Read s b
     main_bits_lem q = q ∙ ap (λ (l : Outline). main_bits s (get_or l.params 0 0) (get_or l.kinds 0 0) (get_or l.guards 0 0)) r.outline ∙ r.means.main
 
     pub wrong_main : main_first s (headers r.xs) ≡ false
-        → judged_from s (onward (raws_from s count (drop 1 bytes)) (bodies_from apart s)) ≡ judged_from s (refused MainKind)
+        → judged_from s (onward (raws_from s count (drop 1 bytes)) (bodies_from apart s)) ≡ Err MainKind
     wrong_main m = rw (r.raws, none, m)
 
     bodies_left : main_first s (headers r.xs) ≡ true → onward (raws_from s count (drop 1 bytes)) (bodies_from apart s) ≡ functions_from apart s
         (headers r.xs) r.xs
     bodies_left m = rw (r.raws, none, m)
 
-    bodies_are : {k : Check}
-        → k ≡ bodies_at
-        (frame_at bytes s count scan.outline.params scan.outline.kinds scan.outline.guards scan.outline.starts scan.outline.ends)
-        count 0
+    bodies_are : {k : Check} → k ≡ bodies_at (frame_at bytes s scan.outline) scan.outline.functions 0
         → k ≡ check_from (functions_from apart s (headers r.xs) r.xs)
-    bodies_are q =
-        q ∙ ap (λ (l : Outline). bodies_at (frame_at bytes s count l.params l.kinds l.guards l.starts l.ends) count 0) r.outline
-        ∙ r.means.bodies
+    bodies_are q = q ∙ ap (λ (l : Outline). bodies_at (frame_at bytes s l) l.functions 0) r.outline ∙ r.means.bodies
 
-    pub bodies_placed : Placed (length bytes) count scan.outline.params scan.outline.starts scan.outline.ends
-    bodies_placed = subst (λ (l : Outline). Placed (length bytes) count l.params l.starts l.ends) (sym r.outline) r.means.placed
+    pub bodies_placed : Placed (length bytes) scan.outline
+    bodies_placed = subst (λ (l : Outline). Placed (length bytes) l) (sym r.outline) r.means.placed
 
-    module _ (m : main_first s (headers r.xs) ≡ true) {k : Check}
-        (q : k ≡ bodies_at (frame_at bytes s count scan.outline.params scan.outline.kinds scan.outline.guards scan.outline.starts
-        scan.outline.ends) count 0)
-      where
-        pub bodies_refused : {f : Refusal} → k ≡ Refused f → judged_from s (onward (raws_from s count (drop 1 bytes)) (bodies_from apart s)) ≡ judged_from s
-            (refused f)
-        bodies_refused {f} e = ap (judged_from s) (bodies_left m) ∙ go (functions_from apart s (headers r.xs) r.xs) (sym (bodies_are q) ∙ e)
-          where
-            go : (p : Parsed Program) → check_from p ≡ Refused f → judged_from s p ≡ judged_from s (refused f)
-            go (got P rest) z = absurd (numbers.refused (sym z))
-            go (refused g) z = ap (λ (x : Refusal). judged_from s (refused x)) (refused_same z)
+    module _ (m : main_first s (headers r.xs) ≡ true) {k : Check} (q : k ≡ bodies_at (frame_at bytes s scan.outline) scan.outline.functions 0) where
+      pub bodies_refused : {f : Refusal} → k ≡ Err f → judged_from s (onward (raws_from s count (drop 1 bytes)) (bodies_from apart s)) ≡ Err f
+      bodies_refused {f} e = ap (judged_from s) (bodies_left m) ∙ go (functions_from apart s (headers r.xs) r.xs) (sym (bodies_are q) ∙ e)
+        where
+          go : (p : Parsed Program) → check_from p ≡ Err f → judged_from s p ≡ Err f
+          go (got P rest) z = absurd (numbers.refused (sym z))
+          go (refused g) z = ap (λ (x : Refusal). Err x) (refused_same z)
 
-        pub all_passed : k ≡ Passed
-            → ◌≡◌ {A = Judged} (record { check = Passed; outline = scan.outline })
-            (judged_from s (onward (raws_from s count (drop 1 bytes)) (bodies_from apart s)))
-        all_passed e = go (functions_from apart s (headers r.xs) r.xs) refl (sym (bodies_are q) ∙ e) ∙ sym (ap (judged_from s) (bodies_left m))
-          where
-            go : (p : Parsed Program) → functions_from apart s (headers r.xs) r.xs ≡ p → check_from p ≡ Passed
-                → ◌≡◌ {A = Judged} (record { check = Passed; outline = scan.outline }) (judged_from s p)
-            go (got P rest) w z = λ i. record { check = Passed; outline = (r.outline ∙ r.means.outline P rest w) i }
-            go (refused g) w z = absurd (numbers.refused z)
+      pub all_passed : k ≡ passed
+          → Ok scan.outline ≡ (judged_from s (onward (raws_from s count (drop 1 bytes)) (bodies_from apart s)))
+      all_passed e = go (functions_from apart s (headers r.xs) r.xs) refl (sym (bodies_are q) ∙ e) ∙ sym (ap (judged_from s) (bodies_left m))
+        where
+          go : (p : Parsed Program) → functions_from apart s (headers r.xs) r.xs ≡ p → check_from p ≡ passed
+              → Ok scan.outline ≡ judged_from s p
+          go (got P rest) w z = ap (λ (x : Outline). Ok x) (r.outline ∙ r.means.outline P rest w)
+          go (refused g) w z = absurd (numbers.refused z)

@@ -22,7 +22,9 @@ use Rattle.trace.proofs.Bits.{bit_past, bit-binary, binary-bound, binary_snoc}
 use Rattle.semantics.specs.declared.Contact.TheVariants.{Ram, Guard}
 use Rattle.semantics.specs.declared.Sort.{Sort}
 use Rattle.semantics.specs.declared.Sort.TheVariants.{One, Two}
-use Rattle.semantics.specs.Language.{Kind, truth, list, is_list, is_guard}
+use Rattle.semantics.specs.declared.Kind.{Kind}
+use Rattle.semantics.specs.declared.Kind.TheVariants.{Truth as truth, List as list}
+use Rattle.semantics.specs.Language.{is_list, is_guard}
 use Rattle.syntax.specs.Limits.{most_params}
 use Rattle.rule.specs.Form.{padded, flags_byte, kinds_byte, guard_byte, KindOfSort, KindsOfSort}
 use Rattle.syntax.specs.Bytes.{kinds_fault, no_list_below, guard_fault}

@@ -10,7 +10,6 @@ pub mod OneNumber
 pub mod Places
 pub mod Walking
 pub mod Copying
-pub mod FrameWays
 pub mod BodyWays
 pub mod Scanning
 pub mod WalkMeaning

@@ -1,6 +1,7 @@
 -- Kind faults told apart, and told by one number:
 --   told_as_one            the same programs are read, and the same bytes refused, by the same numbers but for kind faults
 --   kind_faults            16, 25 or 26 is met exactly where 16 was met when it was the number of all kind faults
+use Rattle.std.specs.Prelude.{Err, Ok}
 use Prim.Native.Nat.{ℕ, zero, suc, ◌-◌}
 use mathlib.Core.Path.{◌≡◌, refl, sym}
 use mathlib.Core.Bool.{Bool, true, false, not, ◌&&◌, ◌||◌, cond}
@@ -10,22 +11,26 @@ use lib.Dec.{T, ltb, eqb}
 use lib.ListN.{length, get_elem?, get_or, drop}
 use Rattle.refusal.specs.declared.Refusal.{Refusal}
 use Rattle.refusal.specs.declared.Refusal.TheVariants.{ProgramLength, FunctionCount, HeaderCut, ParameterKinds, BodyLength, BytesAfterFunctions, MainKind, BodyEnds, TooDeep, ListConstructor, UnknownByte, WrongKind, OperandKind, ArgumentKind, BytesAfterExpression}
-use Rattle.refusal.specs.declared.Check.TheVariants as check
 use Rattle.refusal.specs.{number_of}
 use Rattle.refusal.proofs.Numbers as numbers
 use Rattle.semantics.specs.declared.Contact.TheVariants.{Ram, Guard}
 use Rattle.semantics.specs.declared.Sort.{Sort}
 use Rattle.semantics.specs.declared.Sort.TheVariants.{One, Two}
-use Rattle.semantics.specs.Language.{Kind, truth, list, Op, hd, tl, null, Expr, op, ifte, call, arg, Program, allows, op_allowed}
+use Rattle.semantics.specs.declared.Kind.{Kind}
+use Rattle.semantics.specs.declared.Kind.TheVariants.{Truth as truth, List as list}
+use Rattle.semantics.specs.Language.{Op, hd, tl, null, Expr, op, ifte, call, arg, Program, allows, op_allowed}
 use Rattle.syntax.specs.declared.Node.{Node}
 use Rattle.syntax.specs.declared.Node.TheVariants as node
 use Rattle.syntax.specs.declared.Header.{Header}
-use Rattle.syntax.specs.declared.HeaderRead.TheVariants.{Found, Refused}
 use Rattle.syntax.specs.Limits.{most_depth, most_bytes}
 use Rattle.syntax.specs.Bytes.{count_in, count_fault, header_bytes, guard_byte_in, kinds_fault, guard_fault, length_fault, body_length, header_of, node_of}
-use Rattle.rule.specs.declared.Sorts.{Sorts}
-use Rattle.rule.specs.Reading.{Parsed, got, refused, onward, unless_fault, param_kinds, result_kind, Raw, raw_from, raws_from, Fault, in_result, in_operand, in_argument, Place, body_place, condition_place, operand_place, argument_place, Reader, args_from, if_from}
-use Rattle.rule.specs.Reading.{apart, guard_empty_from, param_from, call_from, op_from, node_from, expr_from, whole_body, functions_from, main_first, headers, bodies_from, takes, program_sort, program_by, program_for, check_from, program_check}
+use Rattle.rule.specs.Wanted.{Wanted}
+use Rattle.rule.specs.declared.expression.Fault.{Fault}
+use Rattle.rule.specs.declared.expression.Fault.TheVariants.{InResult as in_result, InOperand as in_operand, InArgument as in_argument}
+use Rattle.rule.specs.declared.expression.Place.{Place}
+use Rattle.rule.specs.Reading.{Parsed, got, refused, onward, unless_fault, param_kinds, result_kind, Raw, raw_from, raws_from, body_place, condition_place, operand_place, argument_place, Reader, args_from, if_from}
+use Rattle.rule.specs.Wanted.{takes}
+use Rattle.rule.specs.Reading.{apart, guard_empty_from, param_from, call_from, op_from, node_from, expr_from, whole_body, functions_from, main_first, headers, bodies_from, program_sort, program_by, program_for, check_from, program_check}
 use Rattle.rule.specs.OneNumber.{alike, program_before, NoKindFault, Told, read, kind_fault, other, SameFaults}
 
 -- ---- Refusals that are no kind faults
@@ -147,10 +152,10 @@ raw_told s bs =
     said : Bool → Bool → Bool → Parsed Raw
     said a b c =
         raw_from s
-        (cond a (Refused HeaderCut)
-        (cond b (Refused ParameterKinds)
-        (cond c (Refused BodyLength)
-        (Found (record { params = get_or bs 0 0; kinds = get_or bs 1 0; guard = guard_byte_in s bs; length = body_length s bs })))))
+        (cond a (Err HeaderCut)
+        (cond b (Err ParameterKinds)
+        (cond c (Err BodyLength)
+        (Ok (record { params = get_or bs 0 0; kinds = get_or bs 1 0; guard = guard_byte_in s bs; length = body_length s bs })))))
         bs
 
     go : (a b c : Bool) → Told (said a b c) (said a b c)
@@ -170,29 +175,29 @@ bodies_told s xs rest =
     (told_unless (not (main_first s (headers xs))) MainKind tt
     (functions-told s (headers xs) xs))
 
-pub told_as_one : (sorts : Sorts) (bs : List ℕ) → Told (program_for sorts bs) (program_before sorts bs)
+pub told_as_one : (wanted : Wanted) (bs : List ℕ) → Told (program_for wanted bs) (program_before wanted bs)
 unfolding program_by
-told_as_one sorts bs =
+told_as_one wanted bs =
     let s = program_sort bs in
     told_unless (eqb (length bs) 0 || ltb most_bytes (length bs)) ProgramLength tt
-    (told_unless (count_fault (get_or bs 0 0) || not (takes sorts s)) FunctionCount tt
+    (told_unless (count_fault (get_or bs 0 0) || not (takes wanted s)) FunctionCount tt
     (told-onward (raws_told s (count_in (get_or bs 0 0)) (drop 1 bs)) (bodies_told s)))
 
 -- ---- Where kind faults are met
 
-fault-before : {p q : Parsed Program} → Told p q → check_from q ≡ check.Refused WrongKind → (φ : Fault) × (check_from p ≡ check.Refused (apart φ))
+fault-before : {p q : Parsed Program} → Told p q → check_from q ≡ Err WrongKind → (φ : Fault) × (check_from p ≡ Err (apart φ))
 fault-before (read P rest) e = absurd (numbers.refused (sym e))
 fault-before (kind_fault φ) e = (φ, refl)
 fault-before (other f o) e = absurd (o in_result (numbers.refused_same e))
 
-fault_now : {p q : Parsed Program} → Told p q → (φ : Fault) → check_from p ≡ check.Refused (apart φ) → check_from q ≡ check.Refused WrongKind
+fault_now : {p q : Parsed Program} → Told p q → (φ : Fault) → check_from p ≡ Err (apart φ) → check_from q ≡ Err WrongKind
 fault_now (read P rest) φ e = absurd (numbers.refused (sym e))
 fault_now (kind_fault φ') φ e = refl
 fault_now (other f o) φ e = absurd (o φ (numbers.refused_same e))
 
 pub kind_faults : SameFaults
 unfolding program_check
-kind_faults sorts bs = (
-  λ w. fault_now (told_as_one sorts bs) w.0 w.1,
-  λ e. fault-before (told_as_one sorts bs) e,
+kind_faults wanted bs = (
+  λ w. fault_now (told_as_one wanted bs) w.0 w.1,
+  λ e. fault-before (told_as_one wanted bs) e,
 )

@@ -7,6 +7,8 @@
 --   params_at, kinds_at, guards_at       what stands in the outline of a program for each function
 --   placed                               each of them lies within the program
 --   raw_frame, framed, fitting            the check of each works on a frame that fits it
+use Rattle.refusal.specs.declared.Refusal.{Refusal}
+use Rattle.std.specs.Prelude.{Err, Ok, Result}
 use mathlib.Core.Path.{◌≡◌, refl, sym, ap, ◌∙◌}
 use mathlib.Core.List.{List, [], ◌∷◌, map, map-map}
 use mathlib.Core.Option.{some}
@@ -17,8 +19,6 @@ use lib.Seq.{drop-drop}
 use Rattle.semantics.specs.declared.Sort.{Sort}
 use Rattle.semantics.specs.Language.{Function, Program}
 use Rattle.syntax.specs.declared.Header.{Header}
-use Rattle.syntax.specs.declared.HeaderRead.{HeaderRead}
-use Rattle.syntax.specs.declared.HeaderRead.TheVariants.{Found, Refused}
 use Rattle.syntax.specs.Limits.{most_functions, most_params, most_bytes}
 use Rattle.rule.specs.Form.{encode_expr, padded, kinds_byte, guard_byte}
 use Rattle.syntax.specs.Bytes.{header_bytes, header_of}
@@ -32,7 +32,6 @@ use Rattle.rule.proofs.Parsing.{not-got, got_inv, Onward, by, onward_inv}
 use Rattle.rule.proofs.Expressions.{place-below}
 use Rattle.rule.proofs.FunctionBytes.{raw_for, Sound, raw_at, found-sound, bodies_read, bodies_heads, bodies_back}
 use Rattle.rule.proofs.KindBytes.{kinds-few}
-use Rattle.rule.proofs.BodyWays.{part_short}
 use Rattle.rule.proofs.WalkMeaning.{Framed}
 use Rattle.rule.proofs.BodyMeaning.{Fitting}
 
@@ -59,7 +58,7 @@ record First (s : Sort) (bytes : List ℕ) (at : ℕ) (x : Raw) (r : List ℕ) :
   after : r ≡ drop (at + header_bytes s + x.header.length) bytes
 
 module _ (s : Sort) (bytes : List ℕ) where
-  found_first : (at : ℕ) → at ≤ length bytes → (h : Header) → header_of s (drop at bytes) ≡ Found h
+  found_first : (at : ℕ) → at ≤ length bytes → (h : Header) → header_of s (drop at bytes) ≡ Ok h
       → First s bytes at (raw_at s (drop at bytes) h) (drop h.length (drop (header_bytes s) (drop at bytes)))
   found_first at l h e =
       let is = header_is s (drop at bytes) h e in
@@ -71,10 +70,10 @@ module _ (s : Sort) (bytes : List ℕ) where
         after = ap (drop h.length) (drop-drop (header_bytes s) at bytes) ∙ drop-drop h.length (at + header_bytes s) bytes;
       }
 
-  first_is : (at : ℕ) → at ≤ length bytes → (read : HeaderRead) → header_of s (drop at bytes) ≡ read → (x : Raw) (r : List ℕ)
+  first_is : (at : ℕ) → at ≤ length bytes → (read : Result Header Refusal) → header_of s (drop at bytes) ≡ read → (x : Raw) (r : List ℕ)
       → raw_from s read (drop at bytes) ≡ got x r → First s bytes at x r
-  first_is at l (Found h) e x r q = let same = got_inv q in rw (same.0, same.1) (found_first at l h e)
-  first_is at l (Refused f) e x r q = absurd (not-got q)
+  first_is at l (Ok h) e x r q = let same = got_inv q in rw (same.0, same.1) (found_first at l h e)
+  first_is at l (Err f) e x r q = absurd (not-got q)
 
   none_are : (at : ℕ) → at ≤ length bytes → RawsAre s bytes 0 at [] (drop at bytes)
   unfolding end_of
@@ -212,10 +211,14 @@ module _ (s : Sort) (xs : List Raw) (i : ℕ) where
   unfolding raw_outline
   outline_ends = get_or-padded most_functions 0 (raw_ends s 1 xs) i
 
--- what the check of body i of so many works on
-abbrev pub raw_frame : List ℕ → Sort → ℕ → List Raw → ℕ → Frame
-raw_frame bytes s n xs =
-    frame_at bytes s n (raw_outline s xs).params (raw_outline s xs).kinds (raw_outline s xs).guards (raw_outline s xs).starts (raw_outline s xs).ends
+-- what the check of body i works on
+abbrev pub raw_frame : List ℕ → Sort → List Raw → ℕ → Frame
+raw_frame bytes s xs = frame_at bytes s (raw_outline s xs)
+
+-- how many there are
+pub outline_count : (s : Sort) (xs : List Raw) → (raw_outline s xs).functions ≡ length xs
+unfolding raw_outline
+outline_count s xs = refl
 
 module _ {s : Sort} {bytes : List ℕ} {n : ℕ} {xs : List Raw} {rest : List ℕ} (are : RawsAre s bytes n 1 xs rest) where
   pub all_sound : AllSound s xs
@@ -224,22 +227,23 @@ module _ {s : Sort} {bytes : List ℕ} {n : ℕ} {xs : List Raw} {rest : List �
   small : (i : ℕ) (x : Raw) → get_elem? xs i ≡ some x → x.header.params ≤ most_params
   small i x e = kinds-few x.header.params x.header.kinds (all_sound i x e).kinds
 
-  pub placed : length bytes ≤ most_bytes → length xs ≤ most_functions
-      → Placed (length bytes) (length xs) (raw_outline s xs).params (raw_outline s xs).starts (raw_outline s xs).ends
+  pub placed : length bytes ≤ most_bytes → length xs ≤ most_functions → Placed (length bytes) (raw_outline s xs)
   placed short few =
       record {
         short = short;
-        few = few;
-        ordered = λ i l. let x = there xs i l in rw (outline_starts s xs i, outline_ends s xs i) (are.each i x.0 x.1).ordered;
-        within = λ i l. let x = there xs i l in rw (outline_ends s xs i) (are.each i x.0 x.1).within;
-        small = λ i l. let x = there xs i l in rw (outline_params s xs i x.0 x.1) (small i x.0 x.1);
+        few = rw (outline_count s xs) few;
+        ordered = λ i l.
+            let x = there xs i (rw (outline_count s xs) at l) in
+            rw (outline_starts s xs i, outline_ends s xs i) (are.each i x.0 x.1).ordered;
+        within = λ i l. let x = there xs i (rw (outline_count s xs) at l) in rw (outline_ends s xs i) (are.each i x.0 x.1).within;
+        small = λ i l. let x = there xs i (rw (outline_count s xs) at l) in rw (outline_params s xs i x.0 x.1) (small i x.0 x.1);
       }
 
-  pub framed : (i : ℕ) → Framed s (headers xs) (raw_frame bytes s (length xs) xs i)
+  pub framed : (i : ℕ) → Framed s (headers xs) (raw_frame bytes s xs i)
   framed i =
       record {
-        contacts = refl;
-        count = sym (length-map xs (λ (x : Raw). x.header));
+        sort = refl;
+        count = outline_count s xs ∙ sym (length-map xs (λ (x : Raw). x.header));
         heads = λ g h e.
             let m = mapped (λ (x : Raw). x.header) xs g h e in
             let x = m.0 in (
@@ -250,15 +254,11 @@ module _ {s : Sort} {bytes : List ℕ} {n : ℕ} {xs : List Raw} {rest : List �
             );
       }
 
-  pub fitting : length bytes ≤ most_bytes → (i : ℕ) (x : Raw) → get_elem? xs i ≡ some x
-      → Fitting s (headers xs) (raw_frame bytes s (length xs) xs i) x
-  fitting short i x e =
-      let same : (raw_frame bytes s (length xs) xs i).body ≡ x.body = rw (outline_starts s xs i, outline_ends s xs i) (sym (are.each i x e).body) in
+  pub fitting : (i : ℕ) (x : Raw) → get_elem? xs i ≡ some x → Fitting s (headers xs) (raw_frame bytes s xs i) x
+  fitting i x e =
       record {
         framed = framed i;
-        short =
-            omega (arith, ap length same, ap length (are.each i x e).body, part_short bytes (are.each i x e).ordered (are.each i x e).within);
-        body = same;
+        body = rw (outline_starts s xs i, outline_ends s xs i) (sym (are.each i x e).body);
         params = outline_params s xs i x e;
         kinds = outline_kinds s xs i x e;
         guard = outline_guards s xs i x e;

@@ -7,6 +7,8 @@
 --   takes-own, takes-only  where one sort is taken, it is that sort
 --   accepted-sort          accepted bytes say their sort
 --   same_bytes             accepted bytes have one sort and one program
+use Rattle.std.specs.Prelude.{None, Some}
+use Rattle.refusal.specs.{passed}
 use mathlib.Core.Path.{◌≡◌, refl, sym, ap, ◌∙◌}
 use mathlib.Core.Bool.{Bool, true, false, not, ◌||◌, cond}
 use mathlib.Core.List.{List, [], ◌∷◌, map, append-nil}
@@ -17,20 +19,22 @@ use lib.Dec.{eqb, ltb}
 use lib.ListN.{length, get_elem?, get_or, drop, drop_of_length-le}
 use borrow.Author.Tests.{ne_eqb, lt-ltb, le-ltb, eqb-true, eqb-false, ltb-false, not-false}
 use Rattle.refusal.specs.declared.Refusal.{Refusal}
-use Rattle.refusal.specs.declared.Check.TheVariants.{Passed}
 use Rattle.refusal.proofs.Numbers.{refused}
 use Rattle.semantics.specs.declared.Sort.{Sort}
 use Rattle.semantics.specs.declared.Sort.TheVariants.{One, Two}
-use Rattle.semantics.specs.Language.{Kind, truth, list, Function, Program, main_params, IsMain, only, allows}
+use Rattle.semantics.specs.declared.Kind.{Kind}
+use Rattle.semantics.specs.declared.Kind.TheVariants.{Truth as truth, List as list}
+use Rattle.semantics.specs.declared.Demand.TheVariants.{Only as only}
+use Rattle.semantics.specs.Language.{Function, Program, main_params, IsMain, allows}
 use Rattle.semantics.proofs.Demands.{same_contact_lem, allows-only}
 use Rattle.syntax.specs.declared.Header.{Header}
 use Rattle.syntax.specs.Limits.{most_functions, most_bytes}
 use Rattle.syntax.specs.Bytes.{two_mark, count_byte, sort_in, count_in, count_fault}
-use Rattle.rule.specs.declared.Sorts.{Sorts}
-use Rattle.rule.specs.declared.Sorts.TheVariants.{Both, Only}
+use Rattle.rule.specs.Wanted.{Wanted}
 use Rattle.rule.specs.Form.{AreBytes, encode, encode_functions, Accepted}
 use Rattle.rule.specs.Reading as reading
-use Rattle.rule.specs.Reading.{Parsed, got, unless_fault, param_kinds, result_kind, raws_from, same_kinds, main_first, headers, bodies_from, takes, program_sort, program_by, program_for, check_from, program_check, apart}
+use Rattle.rule.specs.Wanted.{takes}
+use Rattle.rule.specs.Reading.{Parsed, got, unless_fault, param_kinds, result_kind, raws_from, same_kinds, main_first, headers, bodies_from, program_sort, program_by, program_for, check_from, program_check, apart}
 use Rattle.rule.proofs.Tests.{both, neither}
 use Rattle.rule.proofs.Parsing.{not-got, got_inv, refused_inv, Onward, by, onward_inv}
 use Rattle.rule.proofs.Expressions.{Heads, no_heads, one_head, place-below}
@@ -55,11 +59,11 @@ byte_back b = go (ltb b two_mark) refl
 
 -- ---- The sort that is taken
 
-pub takes-own : (s : Sort) → takes (Only s) s ≡ true
+pub takes-own : (s : Sort) → takes (Some s) s ≡ true
 takes-own One = refl
 takes-own Two = refl
 
-pub takes-only : (s s' : Sort) → takes (Only s) s' ≡ true → s' ≡ s
+pub takes-only : (s s' : Sort) → takes (Some s) s' ≡ true → s' ≡ s
 takes-only One One e = refl
 takes-only One Two e = let z : ◌≡◌ {A = ℕ} 0 1 = cc in absurd (omega arith)
 takes-only Two One e = let z : ◌≡◌ {A = ℕ} 0 1 = cc in absurd (omega arith)
@@ -104,10 +108,10 @@ main-first s (one_head {f = f'} {h = h} is more) f e m =
 
 -- ---- Written, then read
 
-pub read-encoded : (bytes : List ℕ) (s : Sort) (P : Program) → Accepted bytes s P → (sorts : Sorts) → takes sorts s ≡ true
-    → program_for sorts bytes ≡ got P []
+pub read-encoded : (bytes : List ℕ) (s : Sort) (P : Program) → Accepted bytes s P → (wanted : Wanted) → takes wanted s ≡ true
+    → program_for wanted bytes ≡ got P []
 unfolding program_by encode
-read-encoded bytes s P a sorts taken =
+read-encoded bytes s P a wanted taken =
     let written = encode_functions s P in
     let size : length bytes ≡ suc (length written) = ap length a.encoded in
     let main = a.main in
@@ -128,22 +132,22 @@ first_byte [] filled = absurd (filled refl)
 first_byte (b ∷ bs) filled = refl
 
 -- bytes whose length and count are not refused, and whose sort is taken, are read by their functions
-record Started (sorts : Sorts) (bytes : List ℕ) (P : Program) (rest : List ℕ) : Type 0 where
+record Started (wanted : Wanted) (bytes : List ℕ) (P : Program) (rest : List ℕ) : Type 0 where
   filled : length bytes ≡ 0 → ⊥
   short : length bytes ≤ most_bytes
   few : count_in (get_or bytes 0 0) ≤ most_functions
-  taken : takes sorts (program_sort bytes) ≡ true
+  taken : takes wanted (program_sort bytes) ≡ true
   functions : Onward (raws_from (program_sort bytes) (count_in (get_or bytes 0 0)) (drop 1 bytes)) (bodies_from apart (program_sort bytes)) P rest
 
-started : (sorts : Sorts) (bytes : List ℕ) (P : Program) (rest : List ℕ) → program_for sorts bytes ≡ got P rest → Started sorts bytes P rest
+started : (wanted : Wanted) (bytes : List ℕ) (P : Program) (rest : List ℕ) → program_for wanted bytes ≡ got P rest → Started wanted bytes P rest
 unfolding program_by
-started sorts bytes P rest q =
+started wanted bytes P rest q =
     let b = get_or bytes 0 0 in
     let s = program_sort bytes in
     let size = refused_inv (eqb (length bytes) 0 || ltb most_bytes (length bytes)) _ _ P rest q in
-    let count = refused_inv (count_fault b || not (takes sorts s)) _ _ P rest size.1 in
+    let count = refused_inv (count_fault b || not (takes wanted s)) _ _ P rest size.1 in
     let long = neither (eqb (length bytes) 0) (ltb most_bytes (length bytes)) size.0 in
-    let sort = neither (count_fault b) (not (takes sorts s)) count.0 in
+    let sort = neither (count_fault b) (not (takes wanted s)) count.0 in
     let many = neither (eqb (count_in b) 0) (ltb most_functions (count_in b)) sort.0 in
     record {
       filled = eqb-false _ _ long.0;
@@ -167,10 +171,10 @@ accepted bytes s n P rest are filled short says few (by xs after p q) =
     let is_main_lem = main-found s w.heads (not-false _ main.0) in
     (record { encoded = whole; short = short; few = rw w.count few; fits = w.fits; main = is_main_lem; kinds = w.kinds }, w.none)
 
-pub read-accepted : (sorts : Sorts) (bytes : List ℕ) (P : Program) (rest : List ℕ) → AreBytes bytes → program_for sorts bytes ≡ got P rest
-    → Accepted bytes (program_sort bytes) P × (takes sorts (program_sort bytes) ≡ true) × (rest ≡ [])
-read-accepted sorts bytes P rest are q =
-    let w = started sorts bytes P rest q in
+pub read-accepted : (wanted : Wanted) (bytes : List ℕ) (P : Program) (rest : List ℕ) → AreBytes bytes → program_for wanted bytes ≡ got P rest
+    → Accepted bytes (program_sort bytes) P × (takes wanted (program_sort bytes) ≡ true) × (rest ≡ [])
+read-accepted wanted bytes P rest are q =
+    let w = started wanted bytes P rest q in
     let b = get_or bytes 0 0 in
     let a = accepted bytes (program_sort bytes) (count_in b) P rest are w.filled w.short (byte_back b) w.few w.functions in
     (a.0, w.taken, a.1)
@@ -183,30 +187,30 @@ one_test_less false true k f f' p P rest q = absurd (not-got q)
 one_test_less false false true f f' p P rest q = q
 one_test_less false false false f f' p P rest q = absurd (not-got q)
 
-pub read_both : (sorts : Sorts) (bytes : List ℕ) (P : Program) (rest : List ℕ) → program_for sorts bytes ≡ got P rest
-    → program_for Both bytes ≡ got P rest
+pub read_both : (wanted : Wanted) (bytes : List ℕ) (P : Program) (rest : List ℕ) → program_for wanted bytes ≡ got P rest
+    → program_for None bytes ≡ got P rest
 unfolding program_by
-read_both sorts bytes P rest q =
+read_both wanted bytes P rest q =
     let long = eqb (length bytes) 0 || ltb most_bytes (length bytes) in
-    one_test_less long (count_fault (get_or bytes 0 0)) (takes sorts (program_sort bytes)) _ _ _ P rest q
+    one_test_less long (count_fault (get_or bytes 0 0)) (takes wanted (program_sort bytes)) _ _ _ P rest q
 
 -- ---- The check
 
-pub accepted_passed : (bytes : List ℕ) (s : Sort) (P : Program) → Accepted bytes s P → (sorts : Sorts) → takes sorts s ≡ true
-    → program_check sorts bytes ≡ Passed
+pub accepted_passed : (bytes : List ℕ) (s : Sort) (P : Program) → Accepted bytes s P → (wanted : Wanted) → takes wanted s ≡ true
+    → program_check wanted bytes ≡ passed
 unfolding program_check
-accepted_passed bytes s P a sorts taken = rw (read-encoded bytes s P a sorts taken)
+accepted_passed bytes s P a wanted taken = rw (read-encoded bytes s P a wanted taken)
 
-passed_read : (p : Parsed Program) → check_from p ≡ Passed → (P : Program) × (rest : List ℕ) × (p ≡ got P rest)
+passed_read : (p : Parsed Program) → check_from p ≡ passed → (P : Program) × (rest : List ℕ) × (p ≡ got P rest)
 passed_read (got P rest) e = (P, rest, refl)
 passed_read (reading.refused f) e = absurd (refused e)
 
-pub passed_accepted : (sorts : Sorts) (bytes : List ℕ) → AreBytes bytes → program_check sorts bytes ≡ Passed
-    → (P : Program) × Accepted bytes (program_sort bytes) P × (takes sorts (program_sort bytes) ≡ true)
+pub passed_accepted : (wanted : Wanted) (bytes : List ℕ) → AreBytes bytes → program_check wanted bytes ≡ passed
+    → (P : Program) × Accepted bytes (program_sort bytes) P × (takes wanted (program_sort bytes) ≡ true)
 unfolding program_check
-passed_accepted sorts bytes are e =
-    let w = passed_read (program_for sorts bytes) e in
-    let a = read-accepted sorts bytes w.0 w.1 are w.2 in
+passed_accepted wanted bytes are e =
+    let w = passed_read (program_for wanted bytes) e in
+    let a = read-accepted wanted bytes w.0 w.1 are w.2 in
     (w.0, a.0, a.1)
 
 pub accepted-sort : (bytes : List ℕ) (s : Sort) (P : Program) → Accepted bytes s P → program_sort bytes ≡ s
@@ -216,5 +220,5 @@ accepted-sort bytes s P a = rw a.encoded (sort_back s (length P) a.few)
 pub same_bytes : (bytes : List ℕ) (s s' : Sort) (P Q : Program) → Accepted bytes s P → Accepted bytes s' Q → (s ≡ s') × (P ≡ Q)
 same_bytes bytes s s' P Q a b = (
   sym (accepted-sort bytes s P a) ∙ accepted-sort bytes s' Q b,
-  (got_inv (sym (read-encoded bytes s' Q b Both refl) ∙ read-encoded bytes s P a Both refl)).0,
+  (got_inv (sym (read-encoded bytes s' Q b None refl) ∙ read-encoded bytes s P a None refl)).0,
 )

@@ -1,8 +1,8 @@
 -- Laws of the headers of a program of a sort, read one after the other:
 --   Scanned           some headers have been read: their outline, and what is left to read
 --   map_snoc          the images of a list with one more element
---   no_outline        the outline of no functions is the same for both sorts
---   scan_refused, scan_passed   what the code answers
+--   scan_stopped, scan_passed   what the code answers
+use Rattle.std.specs.Prelude.{Result, Ok, Err}
 use mathlib.Core.Path.{◌≡◌, refl, sym, ap, ◌∙◌}
 use mathlib.Core.Bool.{Bool, true, false, ◌||◌}
 use mathlib.Core.List.{List, [], ◌∷◌, ◌++◌, map, append_assoc, append-nil}
@@ -13,18 +13,14 @@ use lib.ListN.{length, take, drop, set, replicate, length-append, length-drop, l
 use lib.Seq.{drop-drop}
 use borrow.Author.Tests.{ltb-false}
 use Rattle.refusal.specs.declared.Refusal.{Refusal}
-use Rattle.refusal.specs.declared.Check.TheVariants as check
 use Rattle.semantics.specs.declared.Sort.{Sort}
-use Rattle.semantics.specs.declared.Sort.TheVariants.{One}
 use Rattle.syntax.specs.declared.Header.{Header}
-use Rattle.syntax.specs.declared.HeaderRead.TheVariants.{Found, Refused}
 use Rattle.rule.specs.declared.Outline.{Outline}
 use Rattle.rule.specs.declared.functions.Scan.{Scan}
 use Rattle.syntax.specs.Limits.{most_functions, most_body}
 use Rattle.rule.specs.Form.{padded}
 use Rattle.syntax.specs.Bytes.{header_bytes, length_fault, header_of}
 use Rattle.rule.specs.Reading.{Parsed, got, refused, onward, Raw, raws_from}
-use Rattle.rule.specs.Outline.{starts_from, ends_from, outline_of}
 use Rattle.rule.specs.Walk.{raw_starts, raw_ends, raw_outline, scan_from}
 use Rattle.rule.proofs.Padded.{set-padded}
 use Rattle.syntax.proofs.HeaderWays.{header_is, header-size}
@@ -100,14 +96,14 @@ onward-more done x (got xs r) = ap (λ (l : List Raw). got l r) (sym (append_ass
 onward-more done x (refused f) = refl
 
 -- the first header, with the bytes from it on
-rest_found : (s : Sort) (m : ℕ) (bs : List ℕ) (h : Header) → header_of s bs ≡ Found h
+rest_found : (s : Sort) (m : ℕ) (bs : List ℕ) (h : Header) → header_of s bs ≡ Ok h
     → raws_from s (suc m) bs
     ≡ onward (raws_from s m (drop h.length (drop (header_bytes s) bs)))
     (λ xs r. got (record { header = h; body = take h.length (drop (header_bytes s) bs) } ∷ xs) r)
 unfolding raws_from
 rest_found s m bs h e = rw e
 
-rest_refused : (s : Sort) (m : ℕ) (bs : List ℕ) (f : Refusal) → header_of s bs ≡ Refused f → raws_from s (suc m) bs ≡ refused f
+rest_refused : (s : Sort) (m : ℕ) (bs : List ℕ) (f : Refusal) → header_of s bs ≡ Err f → raws_from s (suc m) bs ≡ refused f
 unfolding raws_from
 rest_refused s m bs f e = rw e
 
@@ -136,7 +132,7 @@ scanned_start s bytes n h =
     }
 
 module _ {s : Sort} {bytes : List ℕ} {n : ℕ} {ps ks gs ss es : List ℕ} {at i : ℕ} (u : Scanned s bytes n ps ks gs ss es at i) where
-  pub scanned_stop : {f : Refusal} → i < n → header_of s (drop at bytes) ≡ Refused f → raws_from s n (drop 1 bytes) ≡ refused f
+  pub scanned_stop : {f : Refusal} → i < n → header_of s (drop at bytes) ≡ Err f → raws_from s n (drop 1 bytes) ≡ refused f
   scanned_stop {f} h e =
       let more : n - i ≡ suc (n - (i + 1)) = omega arith in
       rw (more, rest_refused s (n - (i + 1)) (drop at bytes) f e) at u.rest
@@ -148,14 +144,14 @@ module _ {s : Sort} {bytes : List ℕ} {n : ℕ} {ps ks gs ss es : List ℕ} {at
       (rw none at u.rest) ∙ ap (λ (l : List Raw). got l (drop at bytes)) (append-nil u.done)
 
   -- the header at the next place fits
-  pub next_fits : {h : Header} → header_of s (drop at bytes) ≡ Found h
+  pub next_fits : {h : Header} → header_of s (drop at bytes) ≡ Ok h
       → (h.length ≤ most_body) × (at + header_bytes s + h.length ≤ length bytes)
   next_fits {h} e =
       let is = header_is s (drop at bytes) h e in
       let size = size_fits h.length (length (drop at bytes) - header_bytes s) (header-size s (drop at bytes) h is) in
       (size.0, omega (arith, size.1, is.long, length-drop at bytes, u.within))
 
-  module _ {h : Header} (few : n ≤ most_functions) (l : i < n) (e : header_of s (drop at bytes) ≡ Found h) where
+  module _ {h : Header} (few : n ≤ most_functions) (l : i < n) (e : header_of s (drop at bytes) ≡ Ok h) where
     pub scanned_more : Scanned s bytes n (set ps i h.params) (set ks i h.kinds) (set gs i h.guard) (set ss i (at + header_bytes s))
         (set es i (at + header_bytes s + h.length)) (at + header_bytes s + h.length) (i + 1)
     scanned_more =
@@ -188,27 +184,19 @@ module _ {s : Sort} {bytes : List ℕ} {n : ℕ} {ps ks gs ss es : List ℕ} {at
               ∙ onward-more u.done x (raws_from s (n - (i + 1)) (drop (at + header_bytes s + h.length) bytes));
         }
 
-pub no_outline : (s : Sort) → outline_of One [] ≡ outline_of s []
-unfolding outline_of starts_from ends_from
-no_outline s = refl
-
 -- what the loop answers
-pub scan_refused : (s : Sort) (len : ℕ) {p : Parsed (List Raw)} {f : Refusal} {l : Outline} → p ≡ refused f → l ≡ outline_of One []
-    → ◌≡◌ {A = Scan} (record { check = check.Refused f; outline = l; end = 0 }) (scan_from s len p)
-scan_refused s len {f = f} e q =
-    let none = q ∙ no_outline s in
-    (λ i. record { check = check.Refused f; outline = none i; end = 0 }) ∙ sym (ap (scan_from s len) e)
+pub scan_stopped : (s : Sort) (len : ℕ) {p : Parsed (List Raw)} {f : Refusal} → p ≡ refused f → Err f ≡ scan_from s len p
+scan_stopped s len e = sym (ap (scan_from s len) e)
 
-module _ {s : Sort} {bytes : List ℕ} {n : ℕ} {ps ks gs ss es : List ℕ} {at i : ℕ} (u : Scanned s bytes n ps ks gs ss es at i) (h : n ≤ i) where
-  scan_outline : ◌≡◌ {A = Outline} (record { functions = n; params = ps; kinds = ks; guards = gs; starts = ss; ends = es }) (raw_outline s u.done)
+module _ {s : Sort} {bytes : List ℕ} {n : ℕ} {l : Outline} {at i : ℕ} (all : l.functions ≡ n)
+    (u : Scanned s bytes n l.params l.kinds l.guards l.starts l.ends at i) (h : n ≤ i) where
+  scan_outline : l ≡ raw_outline s u.done
   unfolding raw_outline
   scan_outline =
-      let size : n ≡ length u.done = omega (arith, u.count, u.below) in
+      let size : l.functions ≡ length u.done = omega (arith, all, u.count, u.below) in
       λ j. record { functions = size j; params = u.params j; kinds = u.kinds j; guards = u.guards j; starts = u.starts j; ends = u.ends j }
 
-  pub scan_passed : ◌≡◌ {A = Scan}
-      (record { check = check.Passed; outline = record { functions = n; params = ps; kinds = ks; guards = gs; starts = ss; ends = es }; end = at })
-      (scan_from s (length bytes) (raws_from s n (drop 1 bytes)))
+  pub scan_passed : ◌≡◌ {A = Result Scan Refusal} (Ok (record { outline = l; end = at })) (scan_from s (length bytes) (raws_from s n (drop 1 bytes)))
   scan_passed =
       let end : at ≡ length bytes - length (drop at bytes) = omega (arith, u.within, length-drop at bytes) in
-      (λ j. record { check = check.Passed; outline = scan_outline j; end = end j }) ∙ sym (ap (scan_from s (length bytes)) (scanned_end u h))
+      (λ j. Ok (record { outline = scan_outline j; end = end j })) ∙ sym (ap (scan_from s (length bytes)) (scanned_end u h))

@@ -1,142 +1,107 @@
 -- Laws of the mirror, one for each way through the code:
---   stop_above, check_stays                 a refusal is above all positions, and a walk from it leaves it
---   stop_back                               the refusal is known by its number
---   params_in, header_in                    the headers in an array
 --   check_end, check_deep, check_node       an expression: no byte, no depth left, a node
---   param_there, param_absent               a parameter
---   read_of, read-not                       hd or null
---   tail_of_lem, tail-not                       tl
 --   call_none, call-not, call-args          a call
+--   Down                                    a check that has gone on to an operand with which it ends
 --   Along                                   a call that has gone past some of its arguments
+use Rattle.std.specs.Prelude.{Ok, Err}
 use mathlib.Core.Path.{◌≡◌, refl, sym, ap, ◌∙◌}
 use mathlib.Core.Bool.{Bool, true, false}
-use mathlib.Core.List.{List}
 use Prim.Native.Nat.{ℕ, zero, suc, ◌+◌, ◌-◌, ◌<◌, ◌≤◌}
 use native.Mathlib.Numerals.{sub-one}
 use native.Mathlib.Omega.{arith}
-use lib.ListN.{length, get_or, take, drop}
-use lib.Seq.{get_or-take, get_or-drop}
-use borrow.Author.Tests.{le-leb, lt-leb, lt-ltb, le-ltb}
+use lib.ListN.{length, get_or}
+use borrow.Author.Tests.{le-leb, lt-leb}
 use Rattle.refusal.specs.declared.Refusal.{Refusal}
-use Rattle.refusal.specs.declared.Refusal.TheVariants.{TooDeep, UnknownByte}
-use Rattle.refusal.specs.declared.Check.TheVariants as check
-use Rattle.refusal.specs.{number_of, check_of}
-use Rattle.refusal.proofs.Numbers.{refusal_back}
+use Rattle.refusal.specs.declared.Refusal.TheVariants.{BodyEnds, TooDeep, UnknownByte}
+use Rattle.semantics.specs.declared.Kind.{Kind}
+use Rattle.semantics.specs.Language.{allows}
 use Rattle.syntax.specs.declared.Node.{Node}
-use Rattle.syntax.specs.Limits.{most_functions, most_bytes}
 use Rattle.syntax.specs.Bytes.{node_of}
-use Rattle.syntax.specs.Kinds.{truth_kind}
-use Rattle.rule.specs.Reading.{in_operand, in_argument}
-use Rattle.rule.specs.Walk.{any_list_demand, demand_for, fault_part, demand_in, meets, wrong_kind, kind_of, Frame, at_most_four, first_stop, stop, ended, leaf_walked, param_walked, args_walked, node_walked}
-use Rattle.rule.specs.Walk.{check_at, read_at, tail_at, call_walked_at}
+use Rattle.rule.specs.declared.expression.Place.{Place}
+use Rattle.rule.specs.Reading.{kind_at, argument_place, apart}
+use Rattle.rule.specs.Walk.{Frame, Walked, after, at_most_four, args_walked, node_walked, check_at, call_walked_at}
 
-pub stop_above : (f : Refusal) → first_stop ≤ stop f
-unfolding stop
-stop_above f = omega arith
-
-pub stop_back : (f : Refusal) → check_of (stop f - first_stop) ≡ check.Refused f
-unfolding stop
-stop_back f =
-    let number : first_stop + number_of f - first_stop ≡ number_of f = omega arith in
-    rw number (refusal_back f)
-
-module _ (heads : List ℕ) (g : ℕ) (h : g < most_functions) where
-  pub params_in : get_or heads g 0 ≡ get_or (take most_functions heads) g 0
-  params_in = sym (get_or-take most_functions heads g 0 h)
-
-  pub header_in : (place : ℕ) → get_or heads (place + g) 0 ≡ get_or (take most_functions (drop place heads)) g 0
-  header_in place = sym (get_or-take most_functions (drop place heads) g 0 h ∙ get_or-drop place heads g 0)
-
-module _ (F : Frame) (d place at : ℕ) where
-  pub check_end : length F.body ≤ at → check_at F d place at ≡ ended at
+module _ (F : Frame) (d : ℕ) (place : Place) (at : ℕ) where
+  pub check_end : length F.body ≤ at → Err BodyEnds ≡ check_at F d place at
   unfolding check_at
   check_end h = go d
     where
-      go : (d : ℕ) → check_at F d place at ≡ ended at
+      go : (d : ℕ) → Err BodyEnds ≡ check_at F d place at
       go zero = simp (le-leb _ _ h)
       go (suc d) = simp (le-leb _ _ h)
 
-  pub check_deep : at < length F.body → d ≡ 0 → check_at F d place at ≡ stop TooDeep
+  pub check_deep : at < length F.body → d ≡ 0 → Err TooDeep ≡ check_at F d place at
   unfolding check_at
   check_deep h e = simp (e, lt-leb _ _ h)
 
-  pub check_node : at < length F.body → (d ≡ 0 → ⊥) → {k : Node} → node_of (get_or F.body at 0) ≡ k
-      → check_at F d place at ≡ node_walked F (check_at F (d - 1)) place (at + 1) k
+  pub check_node : at < length F.body → (d ≡ 0 → ⊥) → {n : Node} → n ≡ node_of (get_or F.body at 0) → {k : Node} → n ≡ k
+      → {w : Walked} → w ≡ node_walked F (check_at F (d - 1)) place (at + 1) k → w ≡ check_at F d place at
   unfolding check_at
-  check_node h e {k} q = go d e
+  check_node h e {n} p {k} q {w} r = r ∙ sym (go d e)
     where
       go : (d : ℕ) → (d ≡ 0 → ⊥) → check_at F d place at ≡ node_walked F (check_at F (d - 1)) place (at + 1) k
       go zero e = absurd (e refl)
-      go (suc d) e = simp (lt-leb _ _ h, q, sub-one)
-
-  module _ {b : Bool} (e : b ≡ meets place truth_kind) where
-    pub read_of : b ≡ true → {w : ℕ} → w ≡ check_at F d (fault_part in_operand + any_list_demand) at → w ≡ read_at F d place at
-    unfolding read_at
-    read_of q c = c ∙ simp (sym e ∙ q)
-
-    pub read-not : b ≡ false → read_at F d place at ≡ wrong_kind place
-    unfolding read_at
-    read-not q = simp (sym e ∙ q)
-
-    pub tail_of_lem : b ≡ false → {w : ℕ} → w ≡ check_at F d (fault_part in_operand + demand_in place) at → w ≡ tail_at F d place at
-    unfolding tail_at
-    tail_of_lem q c = c ∙ simp (sym e ∙ q)
-
-    pub tail-not : b ≡ true → tail_at F d place at ≡ wrong_kind place
-    unfolding tail_at
-    tail-not q = simp (sym e ∙ q)
+      go (suc d) e = simp (lt-leb _ _ h, sym p ∙ q, sub-one)
 
   module _ (f : ℕ) where
-    pub call_none : F.functions ≤ f → call_walked_at F d place at f ≡ stop UnknownByte
+    pub call_none : F.outline.functions ≤ f → Err UnknownByte ≡ call_walked_at F d place at f
     unfolding call_walked_at
     call_none h = simp (le-leb _ _ h)
 
-    module _ {kinds guard : ℕ} (k : kinds ≡ get_or F.kinds f 0) (g : guard ≡ get_or F.guards f 0) {result : ℕ} {b : Bool} (h : f < F.functions)
-        (e : result ≡ kind_of kinds guard 4) (q : b ≡ meets place result) where
-      pub call-not : b ≡ false → call_walked_at F d place at f ≡ wrong_kind place
+    module _ (h : f < F.outline.functions) {result : Kind} {b : Bool}
+        (e : result ≡ kind_at (get_or F.outline.kinds f 0) (get_or F.outline.guards f 0) 4) (q : b ≡ allows place.demand result) where
+      pub call-not : b ≡ false → {r : Refusal} → r ≡ apart place.fault → Err r ≡ call_walked_at F d place at f
       unfolding call_walked_at
-      call-not z = simp (lt-leb _ _ h, sym k, sym g, sym e, sym q ∙ z)
+      call-not z w = simp (lt-leb _ _ h, sym e, sym q ∙ z, w)
 
-      pub call-args : b ≡ true → {left : ℕ} → left ≡ at_most_four (get_or F.params f 0)
-          → call_walked_at F d place at f ≡ args_walked (check_at F d) kinds guard left 0 at
+      pub call-args : b ≡ true → {left : ℕ} → left ≡ at_most_four (get_or F.outline.params f 0)
+          → call_walked_at F d place at f
+          ≡ args_walked (check_at F d) (get_or F.outline.kinds f 0) (get_or F.outline.guards f 0) left 0 at
       unfolding call_walked_at
-      call-args z c = simp (lt-leb _ _ h, sym k, sym g, sym e, sym q ∙ z, sym c)
+      call-args z c = simp (lt-leb _ _ h, sym e, sym q ∙ z, sym c)
 
--- a walk from a refusal on leaves it
-pub check_stays : (F : Frame) → length F.body ≤ most_bytes → (d place : ℕ) (f : Refusal) → check_at F d place (stop f) ≡ stop f
-check_stays F short d place f = check_end F d place (stop f) (omega (arith, stop_above f)) ∙ simp (le-ltb _ _ (stop_above f))
+-- a check that has gone on to an operand with which it ends
+pub record Down (F : Frame) (depth : ℕ) (place : Place) (at left : ℕ) (here : Place) (to : ℕ) : Type 0 where
+  pub below : left ≤ depth
+  pub rest : check_at F left here to ≡ check_at F depth place at
 
-module _ (count kinds guard place i next : ℕ) where
-  pub param_there : {κ w : ℕ} → i < count → κ ≡ kind_of kinds guard i → w ≡ leaf_walked place κ next
-      → w ≡ param_walked count kinds guard place i next
-  unfolding param_walked
-  param_there h e q = q ∙ simp (lt-ltb _ _ h, e)
+module _ {F : Frame} {depth : ℕ} {place : Place} {at left : ℕ} {here : Place} {to : ℕ} (u : Down F depth place at left here to) where
+  pub down_end : length F.body ≤ to → Err BodyEnds ≡ check_at F depth place at
+  down_end h = check_end F left here to h ∙ u.rest
 
-  pub param_absent : count ≤ i → stop UnknownByte ≡ param_walked count kinds guard place i next
-  unfolding param_walked
-  param_absent h = simp (le-ltb _ _ h)
+  module _ (h : to < length F.body) where
+    pub down_deep : left ≡ 0 → Err TooDeep ≡ check_at F depth place at
+    down_deep e = check_deep F left here to h e ∙ u.rest
+
+    module _ (e : left ≡ 0 → ⊥) {n : Node} (p : n ≡ node_of (get_or F.body to 0)) {k : Node} (q : n ≡ k) where
+      pub down_node : {w : Walked} → w ≡ node_walked F (check_at F (left - 1)) here (to + 1) k → w ≡ check_at F depth place at
+      down_node r = check_node F left here to h e p q r ∙ u.rest
+
+      pub down_on : {π : Place} {m : ℕ} → node_walked F (check_at F (left - 1)) here (to + 1) k ≡ check_at F (left - 1) π m
+          → Down F depth place at (left - 1) π m
+      down_on r = record { below = omega (arith, u.below); rest = check_node F left here to h e p q (sym r) ∙ u.rest }
 
 -- a call of `left` arguments that has gone past i of them, up to m
-pub record Along (walk : ℕ → ℕ → ℕ) (ks gs left at i m : ℕ) : Type 0 where
+pub record Along (walk : Place → ℕ → Walked) (ks gs left at i m : ℕ) : Type 0 where
   pub below : i ≤ left
   pub rest : args_walked walk ks gs (left - i) i m ≡ args_walked walk ks gs left 0 at
 
-pub along_start : (walk : ℕ → ℕ → ℕ) (ks gs left at : ℕ) → Along walk ks gs left at 0 at
-along_start walk ks gs left at = record { below = omega arith; rest = ap (λ (k : ℕ). args_walked walk ks gs k 0 at) (omega arith) }
-
-module _ {walk : ℕ → ℕ → ℕ} {ks gs left at i m : ℕ} (u : Along walk ks gs left at i m) where
-  pub along_end : left ≤ i → args_walked walk ks gs left 0 at ≡ m
+module _ {walk : Place → ℕ → Walked} {ks gs left at i m : ℕ} (u : Along walk ks gs left at i m) where
+  pub along_end : left ≤ i → args_walked walk ks gs left 0 at ≡ Ok m
   unfolding args_walked
   along_end h = let z : left - i ≡ 0 = omega arith in sym u.rest ∙ ap (λ (k : ℕ). args_walked walk ks gs k i m) z
 
-  pub along_more : i < left → {δ n : ℕ} → δ ≡ demand_for (kind_of ks gs i) → n ≡ walk (fault_part in_argument + δ) m → Along walk ks gs left at (i + 1) n
-  unfolding args_walked
-  along_more h {δ} {n} e q =
-      let z : left - i ≡ suc (left - (i + 1)) = omega arith in
-      record {
-        below = omega arith;
-        rest =
-            ap (args_walked walk ks gs (left - (i + 1)) (i + 1)) (q ∙ ap (λ (k : ℕ). walk (fault_part in_argument + k) m) e)
-            ∙ ap (λ (k : ℕ). args_walked walk ks gs k i m) (sym z)
-            ∙ u.rest;
-      }
+  module _ (h : i < left) {κ : Kind} (e : κ ≡ kind_at ks gs i) {w : Walked} (q : w ≡ walk (argument_place κ) m) where
+    along_step : args_walked walk ks gs left 0 at ≡ after w (args_walked walk ks gs (left - (i + 1)) (i + 1))
+    unfolding args_walked
+    along_step =
+        let z : left - i ≡ suc (left - (i + 1)) = omega arith in
+        sym u.rest ∙ ap (λ (k : ℕ). args_walked walk ks gs k i m) z
+        ∙ ap (λ (x : Walked). after x (args_walked walk ks gs (left - (i + 1)) (i + 1)))
+        (ap (λ (k : Kind). walk (argument_place k) m) (sym e) ∙ sym q)
+
+    pub along_stop : {f : Refusal} → w ≡ Err f → args_walked walk ks gs left 0 at ≡ Err f
+    along_stop z = rw z at along_step
+
+    pub along_more : {n : ℕ} → w ≡ Ok n → Along walk ks gs left at (i + 1) n
+    along_more {n} z = record { below = omega arith; rest = sym (rw z at along_step) }

@@ -1,13 +1,14 @@
 -- What evaluating needs of an accepted program: where its functions stand.
-use Rattle.std.specs.Prelude.{ℕ, ◌+◌, List, [], ◌∷◌, map, length}
+use Rattle.std.specs.Prelude.{ℕ, ◌+◌, List, [], ◌∷◌, map, length, Result, Ok, Err}
+use Rattle.refusal.specs.declared.Refusal.{Refusal}
 use Rattle.semantics.specs.declared.Sort.{Sort}
 use Rattle.semantics.specs.Language.{Function, Program}
 use Rattle.rule.specs.declared.Outline.{Outline}
-use Rattle.rule.specs.declared.Judged.{Judged}
 use Rattle.syntax.specs.Limits.{most_functions}
 use Rattle.syntax.specs.Bytes.{header_bytes}
 use Rattle.rule.specs.Form.{encode_expr, padded, kinds_byte, guard_byte}
-use Rattle.rule.specs.Reading.{Parsed, got, refused, check_from}
+use Rattle.rule.specs.Wanted.{Wanted}
+use Rattle.rule.specs.Reading.{Parsed, got, refused, program_sort, program_for}
 
 -- the place of each body's first byte; the first header stands at `at`
 unfoldable pub starts_from : Sort → ℕ → Program → List ℕ
@@ -37,6 +38,10 @@ abbrev pub outline_from : Sort → Parsed Program → Outline
 outline_from s (got P rest) = outline_of s P
 outline_from s (refused f) = outline_of s []
 
--- what the check of a program answers
-abbrev pub judged_from : Sort → Parsed Program → Judged
-judged_from s p = record { check = check_from p; outline = outline_from s p }
+-- what the check of a program answers: where its functions stand, or the refusal
+abbrev pub judged_from : Sort → Parsed Program → Result Outline Refusal
+judged_from s (got P rest) = Ok (outline_of s P)
+judged_from s (refused f) = Err f
+
+unfoldable pub judged : Wanted → List ℕ → Result Outline Refusal
+judged wanted bs = judged_from (program_sort bs) (program_for wanted bs)

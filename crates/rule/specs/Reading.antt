@@ -1,28 +1,31 @@
 -- 'What is refused', 5 to 17, 25 and 26, of documents 01 and 02: any bytes are read as a program, or refused by the first
 -- number that applies. 'In 7 to 9 the first function at fault decides; in 12 to 17 the first function, and in it the
 -- first byte'; at one byte the lowest number, 25 and 26 'in the place of 16'.
-use Rattle.std.specs.Prelude.{ℕ, zero, suc, Bool, true, false, not, ◌&&◌, ◌||◌, cond, List, [], ◌∷◌, map, length, get_or, take, drop, ltb, eqb}
+use Rattle.std.specs.Prelude.{ℕ, zero, suc, Bool, true, false, not, ◌&&◌, ◌||◌, List, [], ◌∷◌, map, length, get_or, take, drop, ltb, eqb, Result, Ok, Err, None}
 use Rattle.std.proofs.Math.Option.{Option, none, some}
 use Rattle.std.proofs.Math.ListN.{get_elem?}
 use Rattle.refusal.specs.declared.Refusal.{Refusal}
 use Rattle.refusal.specs.declared.Refusal.TheVariants.{ProgramLength, FunctionCount, BytesAfterFunctions, MainKind, BodyEnds, TooDeep, ListConstructor, UnknownByte, WrongKind, OperandKind, ArgumentKind, BytesAfterExpression}
-use Rattle.refusal.specs.declared.Check.{Check}
-use Rattle.refusal.specs.declared.Check.TheVariants as check
+use Rattle.refusal.specs.{Check, passed}
 use Rattle.trace.specs.{bit_of}
 use Rattle.semantics.specs.declared.Contact.TheVariants.{Ram, Guard}
 use Rattle.semantics.specs.declared.Sort.{Sort}
 use Rattle.semantics.specs.declared.Sort.TheVariants.{One, Two}
-use Rattle.semantics.specs.Language.{Kind, truth, list, Op, hd, tl, null, Expr, constant, empty, param, op, ifte, call, Args, no_args, arg, Function, Program, main_params}
-use Rattle.semantics.specs.Language.{Demand, only, allows, op_allowed, operand_demand}
+use Rattle.semantics.specs.declared.Kind.{Kind}
+use Rattle.semantics.specs.declared.Kind.TheVariants.{Truth as truth, List as list}
+use Rattle.semantics.specs.Language.{Op, hd, tl, null, Expr, constant, empty, param, op, ifte, call, Args, no_args, arg, Function, Program, main_params}
+use Rattle.semantics.specs.declared.Demand.TheVariants.{Only as only}
+use Rattle.semantics.specs.Language.{allows, op_allowed, operand_demand}
+use Rattle.rule.specs.Wanted.{Wanted, takes}
 use Rattle.syntax.specs.declared.Node.{Node}
 use Rattle.syntax.specs.declared.Node.TheVariants as node
 use Rattle.syntax.specs.declared.Header.{Header}
-use Rattle.syntax.specs.declared.HeaderRead.{HeaderRead}
-use Rattle.syntax.specs.declared.HeaderRead.TheVariants.{Found, Refused}
 use Rattle.syntax.specs.Limits.{most_depth, most_bytes}
 use Rattle.syntax.specs.Bytes.{sort_in, count_in, count_fault, header_bytes, header_of, node_of}
-use Rattle.rule.specs.declared.Sorts.{Sorts}
-use Rattle.rule.specs.declared.Sorts.TheVariants.{Both, Only}
+use Rattle.syntax.specs.Kinds.{kind_by}
+use Rattle.rule.specs.declared.expression.Fault.{Fault}
+use Rattle.rule.specs.declared.expression.Fault.TheVariants.{InResult as in_result, InOperand as in_operand, InArgument as in_argument}
+use Rattle.rule.specs.declared.expression.Place.{Place}
 
 -- what was read and the bytes after it, or the refusal
 pub data Parsed (A : Type 0) : Type 0 where
@@ -43,7 +46,7 @@ unless_fault false f p = p
 
 -- the kind that bits i of a kinds byte and of a guard byte say
 abbrev pub kind_at : ℕ → ℕ → ℕ → Kind
-kind_at kinds guard i = cond (bit_of i kinds) (list (cond (bit_of i guard) Guard Ram)) truth
+kind_at kinds guard i = kind_by (bit_of i kinds) (bit_of i guard)
 
 -- the kinds that n bits of both say, from bit i on
 unfoldable pub kinds_from : ℕ → ℕ → ℕ → ℕ → List Kind
@@ -62,9 +65,9 @@ pub record Raw : Type 0 where
   pub body : List ℕ
 
 -- the header and body at the front of some bytes
-abbrev pub raw_from : Sort → HeaderRead → List ℕ → Parsed Raw
-raw_from s (Refused f) bs = refused f
-raw_from s (Found h) bs =
+abbrev pub raw_from : Sort → Result Header Refusal → List ℕ → Parsed Raw
+raw_from s (Err f) bs = refused f
+raw_from s (Ok h) bs =
     let body = drop (header_bytes s) bs in
     got (record { header = h; body = take h.length body }) (drop h.length body)
 
@@ -74,17 +77,8 @@ raws_from s (suc n) bs = onward (raw_from s (header_of s bs) bs) (λ x rest. onw
 
 -- ---- Places of an expression
 
--- where a node of the wrong kind stands: in 'a body's or branch's result where a whole body demands it', 'in an operand of hd, tl,
--- null or a condition', 'in an argument'
-pub data Fault : Type 0 where
-  in_result : Fault
-  in_operand : Fault
-  in_argument : Fault
-
--- a place of an expression: what it demands, and which fault a node of another kind is there
-pub record Place : Type 0 where
-  pub demand : Demand
-  pub fault : Fault
+-- a Fault is where a node of the wrong kind stands: in 'a body's or branch's result where a whole body demands it', 'in an operand
+-- of hd, tl, null or a condition', 'in an argument'; a Place is what is demanded there, and which fault a node of another kind is
 
 -- a whole body, of its function's result kind
 abbrev pub body_place : Kind → Place
@@ -217,30 +211,21 @@ bodies_from told s xs rest =
     (unless_fault (not (main_first s (headers xs))) MainKind
     (functions_from told s (headers xs) xs))
 
--- whether programs of a sort are taken: of both where the program alone is checked, else of that of the traces or the
--- format given
-abbrev pub takes : Sorts → Sort → Bool
-takes Both s = true
-takes (Only One) One = true
-takes (Only One) Two = false
-takes (Only Two) One = false
-takes (Only Two) Two = true
-
 -- the sort of a program's bytes
 abbrev pub program_sort : List ℕ → Sort
 program_sort bs = sort_in (get_or bs 0 0)
 
 -- 5: 'the program is empty or longer than 4,096 bytes', 6: the function count, and 'a program of the wrong sort for the format or
 -- the traces given'
-unfoldable pub program_by : (Fault → Refusal) → Sorts → List ℕ → Parsed Program
-program_by told sorts bs =
+unfoldable pub program_by : (Fault → Refusal) → Wanted → List ℕ → Parsed Program
+program_by told wanted bs =
     unless_fault (eqb (length bs) 0 || ltb most_bytes (length bs)) ProgramLength
-    (unless_fault (count_fault (get_or bs 0 0) || not (takes sorts (program_sort bs))) FunctionCount
+    (unless_fault (count_fault (get_or bs 0 0) || not (takes wanted (program_sort bs))) FunctionCount
     (onward (raws_from (program_sort bs) (count_in (get_or bs 0 0)) (drop 1 bs)) (bodies_from told (program_sort bs))))
 
 -- with the numbers of the list
-abbrev pub program_for : Sorts → List ℕ → Parsed Program
-program_for sorts bs = program_by apart sorts bs
+abbrev pub program_for : Wanted → List ℕ → Parsed Program
+program_for wanted bs = program_by apart wanted bs
 
 -- the program that bytes of either sort are read as; of refused bytes, one of no functions
 abbrev pub program_in : Parsed Program → Program
@@ -248,12 +233,12 @@ program_in (got P rest) = P
 program_in (refused f) = []
 
 abbrev pub program_of : List ℕ → Program
-program_of bs = program_in (program_for Both bs)
+program_of bs = program_in (program_for None bs)
 
 -- the check of a program, 5 to 17, 25 and 26
 abbrev pub check_from : {A : Type 0} → Parsed A → Check
-check_from (got a rest) = check.Passed
-check_from (refused f) = check.Refused f
+check_from (got a rest) = passed
+check_from (refused f) = Err f
 
-unfoldable pub program_check : Sorts → List ℕ → Check
-program_check sorts bs = check_from (program_for sorts bs)
+unfoldable pub program_check : Wanted → List ℕ → Check
+program_check wanted bs = check_from (program_for wanted bs)

@@ -5,21 +5,15 @@
 mod expression;
 mod functions;
 
-ghost use Rattle.std.specs.Prelude.{◌≡◌};
-ghost use Rattle.rule.specs.declared.Sorts.TheVariants as Sorts;
-ghost use Rattle.rule.specs.Reading.{program_sort, program_for, program_check, takes};
-ghost use Rattle.rule.specs.Outline.{outline_from};
+ghost use Rattle.std.specs.Prelude.{◌≡◌, None};
+ghost use Rattle.refusal.specs.{told};
+ghost use Rattle.rule.specs.Wanted.{takes};
+ghost use Rattle.rule.specs.Reading.{program_check};
+ghost use Rattle.rule.specs.Outline.{judged};
 
 pub use expression::at_most_four;
-use refusal::{Check, Refusal};
+use refusal::Refusal;
 use semantics::Sort;
-
-// Which sorts of programs are taken: both, or one.
-#[derive(Clone, Copy)]
-pub enum Sorts {
-    Both,
-    Only(Sort),
-}
 
 // Where the functions of a program stand: for each its number of parameters, its kinds byte and its guard byte, and the
 // places of its body's first byte and of the byte after it.
@@ -33,63 +27,37 @@ pub struct Outline {
     pub ends: [u16; 32],
 }
 
-// What the check of a program comes to; of refused bytes the outline is that of no functions.
-#[derive(Clone, Copy)]
-pub struct Judged {
-    pub check: Check,
-    pub outline: Outline,
-}
-
-// Checks program bytes of either sort.
-pub fn check_program(program: &[u8]) -> Judged
-    ensures check { result.check ≡ program_check Sorts.Both program.now }
-    ensures outline { result.outline ≡ outline_from (program_sort program.now) (program_for Sorts.Both program.now) }
+// Checks program bytes of either sort, and answers where their functions stand.
+pub fn check_program(program: &[u8]) -> Result<Outline, Refusal>
+    ensures check { told result ≡ program_check None program.now }
+    ensures outline { result ≡ judged None program.now }
 {
-    check_sorts(program, Sorts::Both)
+    check_sorts(program, None)
 }
 
-// Checks program bytes of the sorts that are taken; those of another meet 6.
-pub fn check_sorts(program: &[u8], sorts: Sorts) -> Judged
-    ensures check { result.check ≡ program_check sorts program.now }
-    ensures outline { result.outline ≡ outline_from (program_sort program.now) (program_for sorts program.now) }
+// Checks program bytes of the sort that is wanted, if one is; those of another meet 6.
+pub fn check_sorts(program: &[u8], wanted: Option<Sort>) -> Result<Outline, Refusal>
+    ensures check { told result ≡ program_check wanted program.now }
+    ensures outline { result ≡ judged wanted program.now }
 {
     let len = program.len();
-    if len == 0 {
-        return functions::refused(Refusal::ProgramLength);
-    }
-    if syntax::MOST_BYTES < len {
-        return functions::refused(Refusal::ProgramLength);
+    if len == 0 || syntax::MOST_BYTES < len {
+        return Err(Refusal::ProgramLength);
     }
     let sort = syntax::sort_of(program[0]);
     let count = syntax::count_of(program[0]);
-    if count == 0 {
-        return functions::refused(Refusal::FunctionCount);
+    if count == 0 || syntax::MOST_FUNCTIONS < count || !taken(wanted, sort) {
+        return Err(Refusal::FunctionCount);
     }
-    if syntax::MOST_FUNCTIONS < count {
-        return functions::refused(Refusal::FunctionCount);
-    }
-    if taken(sorts, sort) {
-        functions::check_functions(program, sort, count)
-    } else {
-        functions::refused(Refusal::FunctionCount)
-    }
+    functions::check_functions(program, sort, count)
 }
 
 // Whether programs of a sort are taken.
-fn taken(sorts: Sorts, sort: Sort) -> bool
-    ensures { result ≡ takes sorts sort }
+fn taken(wanted: Option<Sort>, sort: Sort) -> bool
+    ensures { result ≡ takes wanted sort }
 {
-    match sorts {
-        Sorts::Both => true,
-        Sorts::Only(wanted) => match wanted {
-            Sort::One => match sort {
-                Sort::One => true,
-                Sort::Two => false,
-            },
-            Sort::Two => match sort {
-                Sort::One => false,
-                Sort::Two => true,
-            },
-        },
+    match wanted {
+        None => true,
+        Some(only) => only == sort,
     }
 }

@@ -17,7 +17,11 @@ use Rattle.semantics.specs.declared.Error.{Error}
 use Rattle.semantics.specs.declared.Error.TheVariants.{Head, Tail}
 use Rattle.semantics.specs.declared.Outcome.{Outcome}
 use Rattle.semantics.specs.declared.Outcome.TheVariants.{Truth, Suffix, Failed}
-use Rattle.semantics.specs.Language.{Kind, truth, list, Op, hd, tl, null, Expr, constant, empty, param, op, ifte, call, Args, no_args, arg, Function, Program, Traces, Value, bit, suffix, given, in_kind, InKinds, Demand, only, any_list, op_allowed, operand_demand, Meets, MeetAll, WellKinded}
+use Rattle.semantics.specs.declared.Kind.{Kind}
+use Rattle.semantics.specs.declared.Kind.TheVariants.{Truth as truth, List as list}
+use Rattle.semantics.specs.declared.Demand.{Demand}
+use Rattle.semantics.specs.declared.Demand.TheVariants.{Only as only, AnyList as any_list}
+use Rattle.semantics.specs.Language.{Op, hd, tl, null, Expr, constant, empty, param, op, ifte, call, Args, no_args, arg, Function, Program, Traces, Value, bit, suffix, given, in_kind, InKinds, op_allowed, operand_demand, Meets, MeetAll, WellKinded}
 use Rattle.semantics.specs.Rules.{applied, Arguments, values, failed, Derives, r_constant, r_empty, r_param, r_op, r_op_error, r_then, r_else, r_if_error, r_call, r_call_error, DerivesAll, r_none, r_arg, r_arg_error, r_later_error}
 use Rattle.semantics.specs.Cells.{of_kind}
 use Rattle.semantics.specs.Bodies.{Calls, with_value, with_values, operated, chosen, param_value, body_outcome, args_outcome}

@@ -12,7 +12,9 @@ use lib.Dec.{T}
 use Rattle.semantics.specs.declared.Error.TheVariants.{Head, Tail}
 use Rattle.semantics.specs.declared.Outcome.{Outcome}
 use Rattle.semantics.specs.declared.Outcome.TheVariants.{Truth, Suffix, Failed}
-use Rattle.semantics.specs.Language.{Kind, truth, list, Traces}
+use Rattle.semantics.specs.declared.Kind.{Kind}
+use Rattle.semantics.specs.declared.Kind.TheVariants.{Truth as truth, List as list}
+use Rattle.semantics.specs.Language.{Traces}
 use Rattle.semantics.specs.Cells.{code_of, outcome_of, of_kind, only_of_kind, outcome_in}
 use Rattle.semantics.proofs.Demands.{suffix_in}
 

@@ -17,7 +17,11 @@ use Rattle.semantics.specs.declared.Sort.TheVariants.{One, Two}
 use Rattle.semantics.specs.declared.Error.{Error}
 use Rattle.semantics.specs.declared.Outcome.{Outcome}
 use Rattle.semantics.specs.declared.Outcome.TheVariants.{Truth, Suffix, Failed}
-use Rattle.semantics.specs.Language.{Kind, truth, list, main_params, Traces, trace_of, suffix, same_contact, in_kind, InKinds, whole_traces, Demand, only, any_list, allows}
+use Rattle.semantics.specs.declared.Kind.{Kind}
+use Rattle.semantics.specs.declared.Kind.TheVariants.{Truth as truth, List as list}
+use Rattle.semantics.specs.declared.Demand.{Demand}
+use Rattle.semantics.specs.declared.Demand.TheVariants.{Only as only, AnyList as any_list}
+use Rattle.semantics.specs.Language.{main_params, Traces, trace_of, suffix, same_contact, in_kind, InKinds, whole_traces, allows}
 use Rattle.semantics.specs.Cells.{of_kind}
 
 -- ---- Contacts

@@ -14,7 +14,8 @@ use lib.Arith.{digits_div, digits_mod}
 use lib.Dec.{ltb}
 use lib.ListN.{length}
 use borrow.Author.Tests.{ltb-true, ltb-false, lt-ltb, le-ltb}
-use Rattle.semantics.specs.Language.{Kind, Program, Traces, Value}
+use Rattle.semantics.specs.declared.Kind.{Kind}
+use Rattle.semantics.specs.Language.{Program, Traces, Value}
 use Rattle.semantics.specs.Numbering.{kind_size, digit_of, value_at, size, values_at, Config, config_at}
 use Rattle.semantics.specs.Digits.{first_values, carried_to, next_values}
 use Rattle.semantics.proofs.Numbering.{digit_value, size_pos}

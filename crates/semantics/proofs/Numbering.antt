@@ -18,7 +18,9 @@ use lib.Arith.{digits_div, digits_mod}
 use borrow.Author.Tests.{ltb-true, ltb-false, lt-ltb, le-ltb}
 use Rattle.semantics.specs.declared.Sort.{Sort}
 use Rattle.semantics.specs.declared.Sort.TheVariants.{One, Two}
-use Rattle.semantics.specs.Language.{Kind, truth, list, Function, Program, main_params, Traces, Value, bit, suffix, in_kind, InKinds, whole_traces}
+use Rattle.semantics.specs.declared.Kind.{Kind}
+use Rattle.semantics.specs.declared.Kind.TheVariants.{Truth as truth, List as list}
+use Rattle.semantics.specs.Language.{Function, Program, main_params, Traces, Value, bit, suffix, in_kind, InKinds, whole_traces}
 use Rattle.semantics.specs.Numbering.{kind_size, digit_of, value_at, size, number, values_at, cells, cell_of, config_at}
 use Rattle.semantics.specs.Verdicts.{main_cell}
 use Rattle.semantics.proofs.Demands.{in_suffix, suffix_in}

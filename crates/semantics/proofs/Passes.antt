@@ -22,7 +22,8 @@ use lib.Dec.{eqb}
 use lib.Seq.{set-append_left}
 use borrow.Author.Tests.{eqb-true, eqb-false}
 use Rattle.semantics.specs.declared.Outcome.{Outcome}
-use Rattle.semantics.specs.Language.{Function, Program, Traces, Value, InKinds, only, WellKinded}
+use Rattle.semantics.specs.declared.Demand.TheVariants.{Only as only}
+use Rattle.semantics.specs.Language.{Function, Program, Traces, Value, InKinds, WellKinded}
 use Rattle.semantics.specs.Numbering.{cells, cell_of}
 use Rattle.semantics.specs.Cells.{code_of}
 use Rattle.semantics.specs.Bodies.{body_outcome}

@@ -13,7 +13,9 @@ use lib.ListN.{length, get_elem?, get_or, length-append, get_or-append}
 use Rattle.semantics.specs.declared.Sort.{Sort}
 use Rattle.semantics.specs.declared.Outcome.{Outcome}
 use Rattle.semantics.specs.declared.Outcome.TheVariants.{Truth, Suffix, Failed}
-use Rattle.semantics.specs.Language.{truth, Function, Program, IsMain, Traces, no_traces, Value, InKinds, whole_traces, only, WellKinded}
+use Rattle.semantics.specs.declared.Kind.TheVariants.{Truth as truth}
+use Rattle.semantics.specs.declared.Demand.TheVariants.{Only as only}
+use Rattle.semantics.specs.Language.{Function, Program, IsMain, Traces, no_traces, Value, InKinds, whole_traces, WellKinded}
 use Rattle.semantics.specs.Numbering.{cell_of}
 use Rattle.semantics.specs.Cells.{content_of, only_of_kind, outcome_of, outcome_in}
 use Rattle.semantics.specs.Visits.{Table, lookup}

@@ -17,7 +17,8 @@ use lib.ListN.{length, get_elem?, get_or, set, length-set}
 use lib.Dec as dec
 use lib.Seq.{get_or-set_same, get_or-set_other}
 use Rattle.semantics.specs.declared.Outcome.{Outcome}
-use Rattle.semantics.specs.Language.{Function, Program, Traces, Value, InKinds, only, WellKinded}
+use Rattle.semantics.specs.declared.Demand.TheVariants.{Only as only}
+use Rattle.semantics.specs.Language.{Function, Program, Traces, Value, InKinds, WellKinded}
 use Rattle.semantics.specs.Rules.{Derives}
 use Rattle.semantics.specs.Numbering.{cells, cell_of, Config, config_at}
 use Rattle.semantics.specs.Cells.{code_of, of_kind, outcome_in}

@@ -4,7 +4,9 @@ use Rattle.std.proofs.Math.Option.{Option, none, some}
 use Rattle.semantics.specs.declared.Error.TheVariants.{Head, Tail}
 use Rattle.semantics.specs.declared.Outcome.{Outcome}
 use Rattle.semantics.specs.declared.Outcome.TheVariants.{Truth, Suffix, Failed}
-use Rattle.semantics.specs.Language.{Kind, truth, list, Traces, bit, suffix, in_kind}
+use Rattle.semantics.specs.declared.Kind.{Kind}
+use Rattle.semantics.specs.declared.Kind.TheVariants.{Truth as truth, List as list}
+use Rattle.semantics.specs.Language.{Traces, bit, suffix, in_kind}
 
 -- '0 undecided, 1 False, 2 True, 3 head, 4 tail, 5 + k for a suffix'
 abbrev pub undecided_code : ℕ

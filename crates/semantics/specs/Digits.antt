@@ -1,7 +1,8 @@
 -- Document 02, request 04: the parameter values of a configuration as 'running digits', which step to those of the next.
 use Rattle.std.specs.Prelude.{◌+◌, cond, List, [], ◌∷◌, ltb}
 use Rattle.std.proofs.Math.Option.{Option, none, some}
-use Rattle.semantics.specs.Language.{Kind, Traces, Value}
+use Rattle.semantics.specs.declared.Kind.{Kind}
+use Rattle.semantics.specs.Language.{Traces, Value}
 use Rattle.semantics.specs.Numbering.{kind_size, digit_of, value_at}
 
 -- every digit at its kind's first value

@@ -6,15 +6,16 @@ use Rattle.semantics.specs.declared.Contact.{Contact}
 use Rattle.semantics.specs.declared.Contact.TheVariants.{Ram, Guard}
 use Rattle.semantics.specs.declared.Sort.{Sort}
 use Rattle.semantics.specs.declared.Sort.TheVariants.{One, Two}
+-- the kind of a parameter or a result: Bool, or a list of a contact's trace
+use Rattle.semantics.specs.declared.Kind.{Kind}
+use Rattle.semantics.specs.declared.Kind.TheVariants.{Truth as truth, List as list}
+-- what a place demands: one kind, or a list of either contact
+use Rattle.semantics.specs.declared.Demand.{Demand}
+use Rattle.semantics.specs.declared.Demand.TheVariants.{Only as only, AnyList as any_list}
 use Rattle.semantics.specs.declared.Outcome.{Outcome}
 use Rattle.semantics.specs.declared.Outcome.TheVariants.{Truth, Suffix}
 
 -- ---- Programs
-
--- the kind of a parameter or a result: Bool, a list of the ram trace, a list of the guard trace
-pub data Kind : Type 0 where
-  truth : Kind
-  list : Contact → Kind
 
 abbrev pub is_list : Kind → Bool
 is_list truth = false
@@ -118,11 +119,6 @@ whole_traces One t = suffix Ram (length t.of_ram) ∷ []
 whole_traces Two t = suffix Ram (length t.of_ram) ∷ suffix Guard (length t.of_guard) ∷ []
 
 -- ---- Well-kinded programs
-
--- what a place demands: a kind, or a list of either contact
-pub data Demand : Type 0 where
-  only : Kind → Demand
-  any_list : Demand
 
 -- whether an expression of a kind may stand there
 abbrev pub allows : Demand → Kind → Bool

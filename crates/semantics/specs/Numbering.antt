@@ -1,7 +1,9 @@
 -- 'Table and passes' of document 01: configurations and their numbers.
 use Rattle.std.specs.Prelude.{ℕ, zero, suc, ◌+◌, ◌-◌, ◌*◌, ◌/◌, ◌%◌, true, false, cond, List, [], ◌∷◌, length, ltb}
 use Rattle.std.proofs.Math.Option.{Option, none, some}
-use Rattle.semantics.specs.Language.{Kind, truth, list, Function, Program, Traces, trace_of, Value, bit, suffix}
+use Rattle.semantics.specs.declared.Kind.{Kind}
+use Rattle.semantics.specs.declared.Kind.TheVariants.{Truth as truth, List as list}
+use Rattle.semantics.specs.Language.{Function, Program, Traces, trace_of, Value, bit, suffix}
 
 -- how many values a kind has: '2 for Bool, n + 1 for a list', n being the length of the list's trace
 abbrev pub kind_size : Traces → Kind → ℕ

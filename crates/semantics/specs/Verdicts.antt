@@ -5,7 +5,8 @@ use Rattle.semantics.specs.declared.Outcome.{Outcome}
 use Rattle.semantics.specs.declared.Decision.{Decision}
 use Rattle.semantics.specs.declared.Decision.TheVariants.{Forever, Decided}
 use Rattle.semantics.specs.declared.Verdict.{Verdict}
-use Rattle.semantics.specs.Language.{truth, Program, Traces, no_traces}
+use Rattle.semantics.specs.declared.Kind.TheVariants.{Truth as truth}
+use Rattle.semantics.specs.Language.{Program, Traces, no_traces}
 use Rattle.semantics.specs.Numbering.{size}
 use Rattle.semantics.specs.Cells.{code_of, outcome_in}
 use Rattle.semantics.specs.Passes.{pass_count, final_table}

@@ -1,14 +1,14 @@
 -- Headers and nodes, of documents 01 ('Program bytes', and 6 to 9 of 'What is refused') and 02.
-use Rattle.std.specs.Prelude.{ℕ, zero, suc, ◌+◌, ◌-◌, ◌%◌, ◌^◌, Bool, false, not, ◌&&◌, ◌||◌, cond, List, [], ◌∷◌, length, get_or, ltb, leb, eqb}
+use Rattle.std.specs.Prelude.{ℕ, zero, suc, ◌+◌, ◌-◌, ◌%◌, ◌^◌, Bool, false, not, ◌&&◌, ◌||◌, cond, List, [], ◌∷◌, length, get_or, ltb, leb, eqb, Result, Ok, Err}
+use Rattle.refusal.specs.declared.Refusal.{Refusal}
 use Rattle.refusal.specs.declared.Refusal.TheVariants.{HeaderCut, ParameterKinds, BodyLength}
 use Rattle.trace.specs.{bit_of}
 use Rattle.encoding.specs.{from_low}
 use Rattle.semantics.specs.declared.Sort.{Sort}
 use Rattle.semantics.specs.declared.Sort.TheVariants.{One, Two}
+use Rattle.syntax.specs.declared.Header.{Header}
 use Rattle.syntax.specs.declared.Node.{Node}
 use Rattle.syntax.specs.declared.Node.TheVariants as node
-use Rattle.syntax.specs.declared.HeaderRead.{HeaderRead}
-use Rattle.syntax.specs.declared.HeaderRead.TheVariants.{Found, Refused}
 use Rattle.syntax.specs.Limits.{most_functions, most_params, most_body}
 
 -- ---- The function count byte: 6
@@ -66,12 +66,12 @@ abbrev pub body_length : Sort → List ℕ → ℕ
 body_length s bs = from_low (get_or bs (header_bytes s - 2) 0 ∷ get_or bs (header_bytes s - 1) 0 ∷ [])
 
 -- the header at the front of some bytes; 7: 'fewer than four bytes remain for a header', of two contacts fewer than five
-unfoldable pub header_of : Sort → List ℕ → HeaderRead
+unfoldable pub header_of : Sort → List ℕ → Result Header Refusal
 header_of s bs =
-    cond (ltb (length bs) (header_bytes s)) (Refused HeaderCut)
-    (cond (kinds_fault (get_or bs 0 0) (get_or bs 1 0) || guard_fault (get_or bs 1 0) (guard_byte_in s bs)) (Refused ParameterKinds)
-    (cond (length_fault (body_length s bs) (length bs - header_bytes s)) (Refused BodyLength)
-    (Found (record { params = get_or bs 0 0; kinds = get_or bs 1 0; guard = guard_byte_in s bs; length = body_length s bs }))))
+    cond (ltb (length bs) (header_bytes s)) (Err HeaderCut)
+    (cond (kinds_fault (get_or bs 0 0) (get_or bs 1 0) || guard_fault (get_or bs 1 0) (guard_byte_in s bs)) (Err ParameterKinds)
+    (cond (length_fault (body_length s bs) (length bs - header_bytes s)) (Err BodyLength)
+    (Ok (record { params = get_or bs 0 0; kinds = get_or bs 1 0; guard = guard_byte_in s bs; length = body_length s bs }))))
 
 -- ---- Nodes
 

@@ -1,7 +1,7 @@
 -- Program bytes, of documents 01 and 02, in their smallest forms:
 --   Limits     the limits of a program
 --   Bytes      the count byte, headers and their refusals, and the table of expression bytes
--- Kinds, a mirror of the code, is no part of what a reader must believe.
+--   Kinds      the kinds that bytes say; all kinds of a function in one number are the code's own
 pub mod Limits
 pub mod Bytes
 pub mod Kinds

@@ -2,33 +2,33 @@
 ghost use Rattle.std.specs.Prelude.{◌≡◌, ◌+◌, ◌-◌, ◌<◌, ◌≤◌, length, drop};
 ghost use Rattle.syntax.specs.Bytes.{sort_in, count_in, header_bytes, guard_byte_in, kinds_fault, guard_fault, length_fault, header_of};
 
-use crate::{Header, HeaderRead};
+use crate::Header;
 use refusal::Refusal;
 use semantics::Sort;
 
 // The header that stands at a place of a program of a sort.
-pub fn header_at(program: &[u8], sort: Sort, at: usize) -> HeaderRead
+pub fn header_at(program: &[u8], sort: Sort, at: usize) -> Result<Header, Refusal>
     ensures { result ≡ header_of sort (drop at program.now) }
 {
     let size = header_bytes(sort);
-    let remains = after(program.len(), at);
+    let remains = program.len().saturating_sub(at);
     if remains < size {
-        return HeaderRead::Refused(Refusal::HeaderCut);
+        return Err(Refusal::HeaderCut);
     }
     let params = program[at];
     let kinds = program[at + 1];
     let guard = guard_byte(program, sort, at);
     if kinds_fault(params, kinds) {
-        return HeaderRead::Refused(Refusal::ParameterKinds);
+        return Err(Refusal::ParameterKinds);
     }
     if guard_fault(kinds, guard) {
-        return HeaderRead::Refused(Refusal::ParameterKinds);
+        return Err(Refusal::ParameterKinds);
     }
     let length = encoding::from16(program[at + size - 2], program[at + size - 1]);
     if length_fault(length, remains - size) {
-        return HeaderRead::Refused(Refusal::BodyLength);
+        return Err(Refusal::BodyLength);
     }
-    HeaderRead::Found(Header {
+    Ok(Header {
         params,
         kinds,
         guard,
@@ -68,13 +68,6 @@ pub fn header_bytes(sort: Sort) -> usize
     }
 }
 
-// How many bytes of so many stand from a place on.
-fn after(len: usize, at: usize) -> usize
-    ensures { result ≡ len - at }
-{
-    if len < at { 0 } else { len - at }
-}
-
 // The guard byte of the header at a place; 0 where there is none.
 fn guard_byte(program: &[u8], sort: Sort, at: usize) -> u8
     requires { at + 3 < length program.now }
@@ -90,13 +83,7 @@ fn guard_byte(program: &[u8], sort: Sort, at: usize) -> u8
 fn kinds_fault(params: u8, kinds: u8) -> bool
     ensures { result ≡ kinds_fault params kinds }
 {
-    if crate::MOST_PARAMS < params {
-        return true;
-    }
-    if (1u8 << params) <= kinds % 16 {
-        return true;
-    }
-    32 <= kinds
+    crate::MOST_PARAMS < params || (1u8 << params) <= kinds % 16 || 32 <= kinds
 }
 
 // Whether it applies to the guard byte.
@@ -106,13 +93,9 @@ fn guard_fault(kinds: u8, guard: u8) -> bool
     if 32 <= guard {
         return true;
     }
-    let mut i: u64 = 5;
-    while 0 < i {
-        i -= 1;
-        if trace::bit(guard as u64, i) {
-            if !trace::bit(kinds as u64, i) {
-                return true;
-            }
+    for i in 0..5u64 {
+        if trace::bit(guard as u64, i) && !trace::bit(kinds as u64, i) {
+            return true;
         }
     }
     false
@@ -123,11 +106,5 @@ fn length_fault(size: u16, remains: usize) -> bool
     ensures { result ≡ length_fault size remains }
 {
     let wide = size as usize;
-    if wide == 0 {
-        return true;
-    }
-    if crate::MOST_BODY < wide {
-        return true;
-    }
-    remains < wide
+    wide == 0 || crate::MOST_BODY < wide || remains < wide
 }

@@ -1,5 +1,5 @@
 // The smallest forms of program bytes: what the function count byte and a header say, which node an expression byte stands for,
-// and kinds as numbers. All are answered for all bytes.
+// and the kinds that they say. All are answered for all bytes.
 #![tactic(auto)]
 
 mod headers;
@@ -7,9 +7,8 @@ mod kinds;
 mod nodes;
 
 pub use headers::{count_of, header_at, header_bytes, sort_of};
-pub use kinds::{GUARD, RAM, TRUTH, kind_at, kind_by};
+pub use kinds::{kind_at, kind_by};
 pub use nodes::node_of;
-use refusal::Refusal;
 
 // The mark of two contacts in a function count byte.
 pub const TWO_MARK: u8 = 0x80;
@@ -26,7 +25,7 @@ pub const MOST_DEPTH: u8 = 64;
 pub const MOST_BYTES: usize = 4096;
 
 // The sorts of nodes that an expression byte can stand for.
-#[derive(Clone, Copy)]
+#[derive(Clone, Copy, PartialEq, Eq)]
 pub enum Node {
     False,
     True,
@@ -44,17 +43,10 @@ pub enum Node {
 
 // A function's header: the number of parameters, the kinds byte, the guard byte (0 where there is none) and the body
 // length.
-#[derive(Clone, Copy)]
+#[derive(Clone, Copy, PartialEq, Eq)]
 pub struct Header {
     pub params: u8,
     pub kinds: u8,
     pub guard: u8,
     pub length: u16,
-}
-
-// What stands where a header is due.
-#[derive(Clone, Copy)]
-pub enum HeaderRead {
-    Found(Header),
-    Refused(Refusal),
 }

@@ -1,162 +1,12 @@
-use Rattle.std.proofs.Common.{◌≡◌, ℕ, ◌+◌, ◌*◌, ◌<◌, sym, ap, ◌∙◌, inl, inr, ⊎_elim, arith}
+use Rattle.std.proofs.Common.{◌≡◌, ℕ, sym, ap, ◌∙◌, inl, inr, ⊎_elim, arith}
 use Rattle.codes.specs.{shifted_code}
-use Rattle.decoding.specs.Words.{callee_of}
 use Rattle.evaluator.specs.{eval_word, branch_at, call_at, call_one_at, call_leaves_at}
-use Rattle.evaluator.proofs.EvalWays.{apart_above, eval_deep, eval_sort, eval_other, branch_true, branch_false, branch_other, along_start, along_end, along_stop, along_more, not-below, function_at_lem, param_at_lem, first_param_at, args_count, working_plain, working_guard, one-stop, one_found, next_index_is, lookup_is}
+use Rattle.evaluator.proofs.EvalWays.{apart_above, eval_deep, eval_sort, eval_other, branch_taken, branch_kept, along_start, along_end, along_stop, along_more, function_at_lem, param_at_lem, args_count, call_with_lem, working_plain, working_guard, lookup_is}
+use Rattle.evaluator.proofs.NodeMeaning.{leaf_taken}
 use Rattle.evaluator.proofs.+branch_call_call_one_eval_operand.Goals as goal
-
-pub branch-eval-requires : goal.branch-eval-requires
-branch-eval-requires t c = omega arith
-
-pub branch-returns-then-chosen-eq-TRUE : goal.branch-returns-then-chosen-eq-TRUE
-branch-returns-then-chosen-eq-TRUE t c = c.eval.ensures ∙ sym (branch_true _ _ _ _ _ _ _ c.if-chosen-eq-TRUE.true c.second.ensures)
-
-pub branch-eval-requires-then-chosen-eq-FALSE : goal.branch-eval-requires-then-chosen-eq-FALSE
-branch-eval-requires-then-chosen-eq-FALSE t c = omega arith
-
-pub branch-returns-then-chosen-eq-FALSE : goal.branch-returns-then-chosen-eq-FALSE
-branch-returns-then-chosen-eq-FALSE t c = c.eval-then-chosen-eq-FALSE.ensures ∙ sym (branch_false _ _ _ _ _ _ _ c.if-chosen-eq-TRUE.false c.if-chosen-eq-FALSE.true c.third.ensures)
-
-pub branch-returns : goal.branch-returns
-branch-returns t c = sym (branch_other _ _ _ _ _ _ _ c.if-chosen-eq-TRUE.false c.if-chosen-eq-FALSE.false)
-
-pub call-overflow_mul-place : goal.call-overflow_mul-place
-call-overflow_mul-place t c = omega (arith, c.callee.ensures)
-
-pub call-overflow_add-place : goal.call-overflow_add-place
-call-overflow_add-place t c = omega (arith, c.callee.ensures)
-
-pub call-loop-i-init : goal.call-loop-i-init
-call-loop-i-init t c = let called = c.callee.ensures in
-    let few = c.count-count.ensures in
-    (rw called, rw c.places-rest.ensures (along_start _ _ _ _ _ _ (omega (arith, few))))
-
-pub call-operand-value-requires : goal.call-operand-value-requires
-call-operand-value-requires t c = omega arith
-
-pub call-overflow_add-kind : goal.call-overflow_add-kind
-call-overflow_add-kind t c = omega (arith, c.loop-i.invariant.0, c.loop-i.invariant.1.below, c.loop-i.invariant.1.most, c.loop-i-test.true)
-
-pub call-overflow_add-kind-in-loop-i : goal.call-overflow_add-kind-in-loop-i
-call-overflow_add-kind-in-loop-i t c = omega (arith, c.loop-i.invariant.0, c.loop-i.invariant.1.below, c.loop-i.invariant.1.most, c.loop-i-test.true)
-
-pub call-offset_bounds-words-place : goal.call-offset_bounds-words-place
-call-offset_bounds-words-place t c = omega (arith, c.loop-i.invariant.0, c.loop-i.invariant.1.below, c.loop-i.invariant.1.most, c.loop-i-test.true)
-
-pub call-bounds-words-place : goal.call-bounds-words-place
-call-bounds-words-place t c = omega (arith, c.loop-i.invariant.0, c.loop-i.invariant.1.below, c.loop-i.invariant.1.most, c.loop-i-test.true)
-
-pub call-returns-then-values-digit : goal.call-returns-then-values-digit
-unfolding call_at
-call-returns-then-values-digit t c = let W = c.args.words.now in
-    sym (along_stop c.loop-i.invariant.1 c.loop-i-test.true (param_at_lem W _ c.loop-i.invariant.0 c.loop-i.i)
-    (c.operand-value.ensures ∙ ap (eval_word _ _ _ _ _) c.at.ensures) c.digit-digit.ensures
-    c.values.ensures c.if-values-digit.true)
-    ∙ args_count _ _ _ _ _ c.count-count.ensures
-
-pub call-overflow_add-i : goal.call-overflow_add-i
-call-overflow_add-i t c = omega (arith, c.loop-i.invariant.1.most, c.loop-i-test.true)
-
-pub call-loop-i-smaller : goal.call-loop-i-smaller
-call-loop-i-smaller t c = omega (arith, c.loop-i-test.true)
-
-pub call-loop-i-preserved : goal.call-loop-i-preserved
-call-loop-i-preserved t c = let W = c.args.words.now in
-    let digit = c.digit-digit.ensures in
-    let few : c.digit-digit.result < c.values-in-loop-i.result =
-    omega (arith, c.if-values-digit.false, c.values.ensures, c.values-in-loop-i.ensures) in (
-      c.loop-i.invariant.0,
-      along_more c.loop-i.invariant.1 c.loop-i-test.true (param_at_lem W _ c.loop-i.invariant.0 c.loop-i.i)
-          (c.operand-value.ensures ∙ ap (eval_word _ _ _ _ _) c.at.ensures) c.digit-digit.ensures
-          c.values-in-loop-i.ensures few (not-below _ _ _ digit c.values-in-loop-i.ensures few) (next_index_is _ _ _ (omega (arith, c.values-in-loop-i.ensures)) (omega (arith, few, c.values-in-loop-i.ensures)) c.next_index-index.ensures.0) c.next_index-index.ensures.1,
-    )
-
-pub call-offset_bounds-words-place-2 : goal.call-offset_bounds-words-place-2
-call-offset_bounds-words-place-2 t c = omega (arith, c.loop-i.invariant.0)
-
-pub call-bounds-words-place-2 : goal.call-bounds-words-place-2
-call-bounds-words-place-2 t c = omega (arith, c.loop-i.invariant.0)
-
-pub call-returns : goal.call-returns
-unfolding call_at
-call-returns t c = let W = c.args.words.now in
-    lookup_is _ _ _ c.loop-i.invariant.1.small c.lookup.ensures
-    ∙ sym (along_end c.loop-i.invariant.1 c.loop-i-test.false (function_at_lem W _ c.loop-i.invariant.0))
-    ∙ args_count _ _ _ _ _ c.count-count.ensures
-
-pub call_one-overflow_mul-place : goal.call_one-overflow_mul-place
-call_one-overflow_mul-place t c = omega (arith, c.callee.ensures)
-
-pub call_one-overflow_add-place : goal.call_one-overflow_add-place
-call_one-overflow_add-place t c = omega (arith, c.callee.ensures)
-
-pub call_one-operand-value-requires : goal.call_one-operand-value-requires
-call_one-operand-value-requires t c = omega arith
-
-pub call_one-overflow_add-kind : goal.call_one-overflow_add-kind
-call_one-overflow_add-kind t c = omega (arith, c.callee.ensures)
-
-pub call_one-offset_bounds-words-place : goal.call_one-offset_bounds-words-place
-call_one-offset_bounds-words-place t c = omega (arith, c.callee.ensures)
-
-pub call_one-bounds-words-place : goal.call_one-bounds-words-place
-call_one-bounds-words-place t c = omega (arith, c.callee.ensures)
-
-pub call_one-returns-then-values-digit : goal.call_one-returns-then-values-digit
-unfolding call_one_at
-call_one-returns-then-values-digit t c = let W = c.args.words.now in
-    let place : 4096 + 8 * c.callee.result ≡ 4096 + 8 * callee_of c.args.node = omega (arith, c.callee.ensures) in
-    sym (one-stop _ _ _ _ _ (first_param_at W _ place)
-    (c.operand-value.ensures ∙ ap (eval_word _ _ _ _ _) c.first.ensures) c.digit-digit.ensures c.values.ensures
-    c.if-values-digit.true)
-
-pub call_one-offset_bounds-words-place-2 : goal.call_one-offset_bounds-words-place-2
-call_one-offset_bounds-words-place-2 t c = omega (arith, c.callee.ensures)
-
-pub call_one-bounds-words-place-2 : goal.call_one-bounds-words-place-2
-call_one-bounds-words-place-2 t c = omega (arith, c.callee.ensures)
-
-pub call_one-returns : goal.call_one-returns
-unfolding call_one_at
-call_one-returns t c = let W = c.args.words.now in
-    let place : 4096 + 8 * c.callee.result ≡ 4096 + 8 * callee_of c.args.node = omega (arith, c.callee.ensures) in
-    lookup_is _ _ _ (omega (arith, c.if-values-digit.false, c.values.ensures)) c.lookup.ensures
-    ∙ sym (one_found _ _ _ _ _ (first_param_at W _ place)
-    (c.operand-value.ensures ∙ ap (eval_word _ _ _ _ _) c.first.ensures)
-    c.digit-digit.ensures c.values.ensures c.if-values-digit.false (function_at_lem W _ place))
 
 pub eval-returns-then-depth-eq0 : goal.eval-returns-then-depth-eq0
 eval-returns-then-depth-eq0 t c = sym (eval_deep _ _ _ _ _ _ c.if-depth-eq0.true)
-
-pub eval-operand-requires : goal.eval-operand-requires
-eval-operand-requires t c = omega arith
-
-pub eval-operand-requires-in-3 : goal.eval-operand-requires-in-3
-eval-operand-requires-in-3 t c = omega arith
-
-pub eval-operand-requires-in-4 : goal.eval-operand-requires-in-4
-eval-operand-requires-in-4 t c = omega arith
-
-pub eval-eval-requires : goal.eval-eval-requires
-eval-eval-requires t c = omega arith
-
-pub eval-branch-words-requires : goal.eval-branch-words-requires
-eval-branch-words-requires t c = omega arith
-
-pub eval-branch-words-requires-in-9 : goal.eval-branch-words-requires-in-9
-eval-branch-words-requires-in-9 t c = omega arith
-
-pub eval-branch-words-requires-in-10 : goal.eval-branch-words-requires-in-10
-eval-branch-words-requires-in-10 t c = omega arith
-
-pub eval-branch-words-requires-in-11 : goal.eval-branch-words-requires-in-11
-eval-branch-words-requires-in-11 t c = omega arith
-
-pub eval-call-requires : goal.eval-call-requires
-eval-call-requires t c = omega arith
-
-pub eval-call_one-requires : goal.eval-call_one-requires
-eval-call_one-requires t c = omega arith
 
 pub eval-returns-in-0 : goal.eval-returns-in-0
 eval-returns-in-0 t c = c.constant.ensures ∙ sym (eval_sort _ _ _ _ _ _ c.if-depth-eq0.false 0 c.sort-sort.ensures c.in-0.is)
@@ -223,20 +73,42 @@ eval-returns-in_default t c = let rest = c.in_default.in_default-own.rest in
     let leaves = rest.1 in
     sym (eval_other _ _ _ _ _ _ c.if-depth-eq0.false c.sort-sort.ensures (omega arith))
 
+pub branch-returns-in-Some : goal.branch-returns-in-Some
+branch-returns-in-Some t c = c.eval.ensures ∙ sym (branch_taken _ _ _ _ _ _ c.args.chosen (sym c.branch_of.ensures ∙ c.in-Some.is))
+
+pub branch-returns-in-None : goal.branch-returns-in-None
+branch-returns-in-None t c = sym (branch_kept _ _ _ _ _ _ c.args.chosen (sym c.branch_of.ensures ∙ c.in-None.is))
+
+pub operand-returns-in-Some : goal.operand-returns-in-Some
+operand-returns-in-Some t c = sym (leaf_taken _ _ _ _ _ _ c.if-depth-eq0.false (sym c.leaf.ensures ∙ c.in-Some.is))
+
+pub call_one-returns : goal.call_one-returns
+unfolding call_one_at
+call_one-returns t c = c.call_with.ensures ∙ call_with_lem _ _ _ _ (c.operand-value.ensures ∙ ap (eval_word _ _ _ _ _) c.first.ensures)
+
+pub call-loop-i-init : goal.call-loop-i-init
+call-loop-i-init t c = (rw c.callee.ensures, rw c.places-rest.ensures (along_start _ _ _ _ _ _ (omega (arith, c.count-count.ensures))))
+
+pub call-returns-in_default : goal.call-returns-in_default
+unfolding call_at
+call-returns-in_default t c = let W = c.args.words.now in
+    sym (along_stop c.loop-i.invariant.1 c.loop-i-test.true (param_at_lem W _ c.loop-i.invariant.0 c.loop-i.i)
+    (c.operand-value.ensures ∙ ap (eval_word _ _ _ _ _) c.at.ensures) (sym c.passed.ensures ∙ c.in_default.is))
+    ∙ args_count _ _ _ _ _ c.count-count.ensures
+
+pub call-loop-i-preserved : goal.call-loop-i-preserved
+call-loop-i-preserved t c = let W = c.args.words.now in (
+  c.loop-i.invariant.0,
+  along_more c.loop-i.invariant.1 c.loop-i-test.true (param_at_lem W _ c.loop-i.invariant.0 c.loop-i.i)
+      (c.operand-value.ensures ∙ ap (eval_word _ _ _ _ _) c.at.ensures) (sym c.passed.ensures ∙ c.in-Some.is),
+)
+
+pub call-returns : goal.call-returns
+unfolding call_at
+call-returns t c = let W = c.args.words.now in
+    lookup_is _ _ _ c.loop-i.invariant.1.small c.lookup.ensures
+    ∙ sym (along_end c.loop-i.invariant.1 c.loop-i-test.false (function_at_lem W _ c.loop-i.invariant.0))
+    ∙ args_count _ _ _ _ _ c.count-count.ensures
+
 pub operand-returns-then-depth-eq0 : goal.operand-returns-then-depth-eq0
 operand-returns-then-depth-eq0 t c = sym (eval_deep _ _ _ _ _ _ c.if-depth-eq0.true)
-
-pub operand-returns-then-sort-eq-TAIL_PARAM : goal.operand-returns-then-sort-eq-TAIL_PARAM
-operand-returns-then-sort-eq-TAIL_PARAM t c = (rw c.param.ensures at c.tail.ensures) ∙ sym (eval_sort _ _ _ _ _ _ c.if-depth-eq0.false 6 c.sort-sort.ensures c.if-sort-eq-TAIL_PARAM.true)
-
-pub operand-returns-then-sort-eq-PARAM : goal.operand-returns-then-sort-eq-PARAM
-operand-returns-then-sort-eq-PARAM t c = c.param-then-sort-eq-PARAM.ensures ∙ sym (eval_sort _ _ _ _ _ _ c.if-depth-eq0.false 1 c.sort-sort.ensures c.if-sort-eq-PARAM.true)
-
-pub operand-returns-then-sort-eq-HEAD_PARAM : goal.operand-returns-then-sort-eq-HEAD_PARAM
-operand-returns-then-sort-eq-HEAD_PARAM t c = (rw c.param-then-sort-eq-HEAD_PARAM.ensures at c.head.ensures) ∙ sym (eval_sort _ _ _ _ _ _ c.if-depth-eq0.false 5 c.sort-sort.ensures c.if-sort-eq-HEAD_PARAM.true)
-
-pub operand-eval-requires : goal.operand-eval-requires
-operand-eval-requires t c = omega arith
-
-pub operand-returns : goal.operand-returns
-operand-returns t c = c.eval.ensures

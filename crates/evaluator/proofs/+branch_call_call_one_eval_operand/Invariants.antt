@@ -1,5 +1,5 @@
 -- `eval` and the functions that it calls meet their contracts. A node takes 4 of the measure, which is the depth left.
-use Rattle.std.proofs.Common.{◌≡◌, ◌+◌, ◌-◌, ◌*◌}
+use Rattle.std.proofs.Common.{◌≡◌, ◌+◌, ◌*◌}
 use Rattle.decoding.specs.Words.{callee_of, places_of}
 use Rattle.evaluator.specs.{eval_at}
 use Rattle.evaluator.proofs.EvalWays.{Along}
@@ -24,6 +24,3 @@ abbrev pub invariant-call-loop-i : goal.invariant-call-loop-i
 invariant-call-loop-i l =
     (l.place ≡ 4096 + 8 * callee_of l.node)
     × Along l.words l.table.now (eval_at l.words l.traces l.table.now l.env l.depth) (callee_of l.node) l.count (places_of l.node) l.index l.rest l.i
-
-abbrev pub decreases-call-loop-i : goal.decreases-call-loop-i
-decreases-call-loop-i l = l.count - l.i

@@ -1,12 +1,16 @@
--- `sik_evaluate_two` meets its contract: what `answer_with` makes of what evaluating answers.
-use Rattle.semantics.specs.Handed.{two_traces}
-use Rattle.gateway.proofs.Answers.{evaluated_told}
+-- `sik_evaluate_two` decides: of the verdict that evaluating owes, `told` leaves the values.
+use Rattle.std.proofs.Common.{subst, length, rules, ◌≡◌, Ok}
+use Rattle.refusal.specs.{values_left}
+use Rattle.semantics.specs.Verdicts.{verdict_values}
+use Rattle.semantics.specs.Handed.{Handed}
+use Rattle.evaluate.specs.Evaluate.{Demand3}
 use Rattle.gateway.proofs.sik_evaluate_two.Goals as goal
 
 pub returns-clause-decides : goal.returns-clause-decides
-returns-clause-decides c =
-    let a = c.args in
-    let told = c.evaluate_two-evaluated.ensures in
-    let left = c.answer_with.ensures in
-    (evaluated_told a.program.now (two_traces a.ram.now a.n a.guard.now a.m) a.table.now c.evaluate_two-evaluated.new.table a.answer.now left.number left.answer told.answer
-    told.cells told.decides).1.1.1
+unfolding values_left
+returns-clause-decides c = λ P a f t.
+    let d = subst (λ (h : Handed). Demand3 c.args.program.now h (length c.args.table.now) (λ v. c.evaluate-evaluated.result ≡ Ok v) c.evaluate-evaluated.new.table)
+    c.two-handed.ensures c.evaluate-evaluated.ensures.decides P a f t in
+    let cases = rw d.1 at c.map.ensures.cases in
+    let same : c.map.result ≡ Ok (verdict_values d.0) = search rules in
+    (d.0, (rw same at c.told.ensures.number, rw same at c.told.ensures.left), d.2)

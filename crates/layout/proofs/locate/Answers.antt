@@ -1,11 +1,9 @@
 -- `locate` meets its contract: 1 and 2, then 3 of the trailer's fields, then what stands before it.
 use mathlib.Core.Path.{sym, ap, ◌∙◌}
 use Prim.Native.Nat.{ℕ, ◌-◌}
-use native.Mathlib.Omega.{arith}
 use lib.ListN.{length}
 use Rattle.layout.specs.Trailer.{mark_in, format_in}
-use Rattle.layout.proofs.FormatLaws.{least_trailer_lem}
-use Rattle.layout.proofs.Locating.{missing, wrong_mark, unknown, cut, faulty, distances, sound}
+use Rattle.layout.proofs.Locating.{missing, wrong_mark, unknown, cut, faulty, sound}
 use Rattle.layout.proofs.locate.Goals as goal
 
 pub returns-then-len-lt-TRAILER : goal.returns-then-len-lt-TRAILER
@@ -26,35 +24,19 @@ returns-then-len-size c =
     cut _ c.if-len-lt-TRAILER.false c.if-bytes-len-ne-MARK.false c.numbered-format.ensures
     (rw (← c.trailer_bytes-size.ensures) c.if-len-size.true)
 
-pub sixteen-first-requires : goal.sixteen-first-requires
-sixteen-first-requires c = omega (arith, c.trailer_bytes-size.ensures, least_trailer_lem c.numbered-format.result)
-
-pub sixteen-second-requires : goal.sixteen-second-requires
-sixteen-second-requires c = omega (arith, c.trailer_bytes-size.ensures, least_trailer_lem c.numbered-format.result)
-
-pub sixteen-n-requires : goal.sixteen-n-requires
-sixteen-n-requires c = omega (arith, c.trailer_bytes-size.ensures, least_trailer_lem c.numbered-format.result)
-
-pub returns-then-fields_fault : goal.returns-then-fields_fault
+pub returns-then-are_faulty : goal.returns-then-are_faulty
 unfolding mark_in format_in
-returns-then-fields_fault c =
+returns-then-are_faulty c =
     faulty _ c.if-len-lt-TRAILER.false c.if-bytes-len-ne-MARK.false c.numbered-format.ensures (sym c.knows.ensures ∙ c.if-not-knows.false)
     (rw (← c.trailer_bytes-size.ensures) c.if-len-size.false)
     (ap (λ (k : ℕ). length c.args.bytes.now - k) c.trailer_bytes-size.ensures)
-    c.sixteen-first.ensures c.sixteen-second.ensures c.sixteen-n.ensures c.guard_samples-m.ensures c.fields_fault.ensures c.if-fields_fault.true
-
-pub stored_parts-requires : goal.stored_parts-requires
-stored_parts-requires c =
-    distances c.numbered-format.result _ _ _ c.sixteen-n.result c.guard_samples-m.result
-    (rw (← c.trailer_bytes-size.ensures) c.if-len-size.false)
-    (ap (λ (k : ℕ). length c.args.bytes.now - k) c.trailer_bytes-size.ensures)
-    (sym c.fields_fault.ensures ∙ c.if-fields_fault.false)
+    c.read-fields.ensures c.are_faulty.ensures c.if-are_faulty.true
 
 pub returns : goal.returns
 unfolding mark_in format_in
 returns c =
-    c.stored_parts.ensures
+    c.parts.ensures
     ∙ sound _ c.if-len-lt-TRAILER.false c.if-bytes-len-ne-MARK.false c.numbered-format.ensures (sym c.knows.ensures ∙ c.if-not-knows.false)
     (rw (← c.trailer_bytes-size.ensures) c.if-len-size.false)
     (ap (λ (k : ℕ). length c.args.bytes.now - k) c.trailer_bytes-size.ensures)
-    c.sixteen-first.ensures c.sixteen-second.ensures c.sixteen-n.ensures c.guard_samples-m.ensures c.fields_fault.ensures c.if-fields_fault.false
+    c.read-fields.ensures c.are_faulty.ensures c.if-are_faulty.false

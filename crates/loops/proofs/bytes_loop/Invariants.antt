@@ -1,11 +1,6 @@
--- `bytes_loop` meets its contract. Before turn i the bytes before it are read, and what is due is known.
-use Prim.Native.Nat.{◌-◌}
-use lib.ListN.{length}
+-- `bytes_loop` meets its contract. Before each turn the bytes before it are read, and what is due is known.
 use Rattle.loops.proofs.Passing.{Read}
 use Rattle.loops.proofs.bytes_loop.Given as goal
 
-abbrev pub invariant-loop-i : goal.invariant-loop-i
-invariant-loop-i l = Read l.params l.body l.due l.i
-
-abbrev pub decreases-loop-i : goal.decreases-loop-i
-decreases-loop-i l = length l.body - l.i
+abbrev pub invariant-loop-byte : goal.invariant-loop-byte
+invariant-loop-byte l = Read l.params l.body l.due l.byte-index

@@ -1,36 +1,16 @@
--- The goals that are left.
-use native.Mathlib.Omega.{arith}
-use Rattle.loops.specs.{loops_by}
-use Rattle.loops.proofs.Passing.{going_start, going_stop, going_more, going_whole}
-use Rattle.std.proofs.Common.{ap, not}
+-- `only_loops` meets its contract: a body at which it stops has a call where none may stand.
+use Rattle.std.proofs.Common.{◌≡◌, ℕ, true, false, rules, arith}
+use Rattle.std.proofs.lemmas.Iterator.{cases_from_all, YieldsList-from_range}
+use Rattle.loops.specs.{body_by, loops_by}
+use Rattle.loops.proofs.Passing.{bodies_mean}
 use Rattle.loops.proofs.only_loops.Goals as goal
-
-pub loop-i-init : goal.loop-i-init
-loop-i-init c = going_start _ _
-
-pub offset_bounds-starts-i : goal.offset_bounds-starts-i
-offset_bounds-starts-i c = omega (arith, c.smaller-count.ensures)
-
-pub bounds-starts-i : goal.bounds-starts-i
-bounds-starts-i c = omega (arith, c.smaller-count.ensures)
-
-pub offset_bounds-ends-i : goal.offset_bounds-ends-i
-offset_bounds-ends-i c = omega (arith, c.smaller-count.ensures)
-
-pub bounds-ends-i : goal.bounds-ends-i
-bounds-ends-i c = omega (arith, c.smaller-count.ensures)
-
-pub returns-then-not-body_loops : goal.returns-then-not-body_loops
-unfolding loops_by
-returns-then-not-body_loops c = rw c.smaller-count.ensures at
-    (going_stop c.loop-i.invariant c.loop-i-test.true c.body_loops.ensures (ap not c.if-not-body_loops.true))
-
-pub overflow_add-i : goal.overflow_add-i
-overflow_add-i c = omega (arith, c.smaller-count.ensures)
-
-pub loop-i-preserved : goal.loop-i-preserved
-loop-i-preserved c = going_more c.loop-i.invariant c.loop-i-test.true c.body_loops.ensures (ap not c.if-not-body_loops.false)
 
 pub returns : goal.returns
 unfolding loops_by
-returns c = rw c.smaller-count.ensures at (going_whole c.loop-i.invariant c.loop-i-test.false)
+returns c =
+    let o = c.args.outline.now in
+    let count = c.min-count.result in
+    let loops = λ (i : ℕ). body_by c.args.program.now o.params o.starts o.ends i in
+    rw (← c.min-count.ensures) (bodies_mean loops count c.all.result
+    (cases_from_all _ _ c.all.result (λ i. loops i ≡ true) (λ i. loops i ≡ false) c.all.ensures.ran (YieldsList-from_range 0 count count (cc) (omega arith))
+    (λ x q k. search rules) (λ x q k. search rules)))

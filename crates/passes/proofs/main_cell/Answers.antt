@@ -1,11 +1,7 @@
 -- `main_cell` meets its contract: main has at least one configuration.
-use native.Mathlib.Omega.{arith}
 use Rattle.passes.specs.Mirror.{main_cell_of}
-use Rattle.passes.proofs.SetupLoops.{short-shortened, size_nonzero}
+use Rattle.passes.proofs.SetupLoops.{size_nonzero}
 use Rattle.passes.proofs.main_cell.Goals as goal
-
-pub size-requires : goal.size-requires
-size-requires c = (omega arith, short-shortened _ c.shortened_lengths.ensures)
 
 pub overflow_sub-result : goal.overflow_sub-result
 overflow_sub-result c = rw c.size.ensures.0 (size_nonzero _ _ _ _)

@@ -5,7 +5,7 @@ use Rattle.passes.proofs.CellLoop.{Stepping}
 use Rattle.passes.proofs.pass_function.Given as goal
 
 abbrev pub invariant-loop-index : goal.invariant-loop-index
-invariant-loop-index l = Stepping (setup l.words l.functions l.traces) l.n l.g l.body l.initial.table l.table l.env l.stored l.index
+invariant-loop-index l = Stepping (setup l.given.words.now l.given.functions.now l.given.traces.now) l.given.n l.g l.body l.initial.table l.table l.env l.stored l.index
 
 abbrev pub decreases-loop-index : goal.decreases-loop-index
 decreases-loop-index l = l.size - l.index

@@ -1,60 +1,26 @@
--- `prepare` meets its contract: each check in its order, and what a passed one leaves.
-use Rattle.std.proofs.Common.{sym, ◌∙◌, ◌||◌, arith}
-use Rattle.semantics.specs.Handed.{handed}
-use Rattle.rule.specs.declared.Sorts.TheVariants.{Only}
-use Rattle.rule.specs.Form.{Accepted}
-use Rattle.rule.proofs.Programs.{passed_accepted, takes-only}
-use Rattle.prepare.proofs.Preparing.{program-refused, length-refused, rest_left, lengths_passed, total_is, settled}
+-- `prepare` meets its contract: the program is refused, or the checks that are left are those of its outline.
+use Rattle.std.proofs.Common.{arith, ◌∙◌}
+use Rattle.std.proofs.lemmas.Result.{err_from_is_err_and}
+use Rattle.prepare.specs.Settled.{handed_in}
+use Rattle.prepare.proofs.Preparing.{program-refused, own, checks_agree, settled_own, outline_left, cells_left}
 use Rattle.prepare.proofs.prepare.Goals as goal
 
-pub returns-in-Refused-clause-check : goal.returns-in-Refused-clause-check
-returns-in-Refused-clause-check c =
+pub returns-in_err-outline-clause-check : goal.returns-in_err-outline-clause-check
+returns-in_err-outline-clause-check c =
     let a = c.args in
-    let h = handed a.sort a.ram.now a.n a.guard.now a.m in
-    c.refused.ensures.0
-    ∙ sym (program-refused a.program.now h a.lent c.check_sorts-checked.ensures.check c.in-Refused.is)
+    let p = err_from_is_err_and c.from_residual.result c.from_residual.ensures.1 in
+    rw (p.1, p.2) (program-refused a.program.now (handed_in a.handed) a.lent c.in_err-outline.ensures.check)
 
-pub returns-in-Refused-lengths_check-clause-check : goal.returns-in-Refused-lengths_check-clause-check
-returns-in-Refused-lengths_check-clause-check c =
+pub returns : goal.returns
+returns c =
     let a = c.args in
-    let h = handed a.sort a.ram.now a.n a.guard.now a.m in
-    let judged = c.check_sorts-checked.ensures in
-    let passed =
-    passed_accepted (Only a.sort) a.program.now (λ i. omega (arith, c.type_inv.program i)) (sym judged.check ∙ c.in-Passed.is) in
-    let program : Accepted a.program.now a.sort passed.0 = rw (takes-only a.sort _ passed.2) at passed.1 in
-    let lengths = c.lengths_check.ensures in
-    c.refused-in-Refused-lengths_check.ensures.0
-    ∙ sym (length-refused a.program.now h a.lent program lengths c.in-Refused-lengths_check.is)
-
-pub returns-in-Passed-lengths_check-clause-check : goal.returns-in-Passed-lengths_check-clause-check
-returns-in-Passed-lengths_check-clause-check c =
-    let a = c.args in
-    let h = handed a.sort a.ram.now a.n a.guard.now a.m in
-    let judged = c.check_sorts-checked.ensures in
-    let passed =
-    passed_accepted (Only a.sort) a.program.now (λ i. omega (arith, c.type_inv.program i)) (sym judged.check ∙ c.in-Passed.is) in
-    let program : Accepted a.program.now a.sort passed.0 = rw (takes-only a.sort _ passed.2) at passed.1 in
-    let lengths = c.lengths_check.ensures in
-    let known = c.in-Passed-lengths_check.is in
-    let fit = lengths_passed h lengths known in
-    let cells = c.cells_of-cells.ensures in
-    let total = total_is h program judged.outline fit cells.functions cells.total in
-    c.padding_then_table.ensures
-    ∙ sym
-    (rest_left a.program.now h a.lent program lengths known c.padding_set.ensures
-    c.padding_set-in-Passed-lengths_check.ensures total)
-
-pub returns-in-Passed-lengths_check-clause-settled : goal.returns-in-Passed-lengths_check-clause-settled
-returns-in-Passed-lengths_check-clause-settled c =
-    let a = c.args in
-    let h = handed a.sort a.ram.now a.n a.guard.now a.m in
-    let judged = c.check_sorts-checked.ensures in
-    let passed =
-    passed_accepted (Only a.sort) a.program.now (λ i. omega (arith, c.type_inv.program i)) (sym judged.check ∙ c.in-Passed.is) in
-    let program : Accepted a.program.now a.sort passed.0 = rw (takes-only a.sort _ passed.2) at passed.1 in
-    let lengths = c.lengths_check.ensures in
-    let known = c.in-Passed-lengths_check.is in
-    let fit = lengths_passed h lengths known in
-    let cells = c.cells_of-cells.ensures in
-    let padding = c.padding_set.result || c.padding_set-in-Passed-lengths_check.result in
-    λ e. settled h program judged.outline fit cells.functions cells.total a.lent padding c.padding_then_table.ensures e
+    let h = handed_in a.handed in
+    let judged = c.in_ok-outline.ensures in
+    let o = own a.program.now a.handed.sort (λ i. omega (arith, c.type_inv.program i)) judged.check judged.outline in
+    let left = c.places.ensures in
+    record {
+      check = left.check ∙ checks_agree h o a.lent;
+      settled = settled_own h o a.lent c.places.result left.check left.cells;
+      outline = outline_left a.program.now h _ a.handed.sort c.places.result judged.outline left.cells;
+      cells = cells_left a.program.now h _ c.places.result left.cells;
+    }

@@ -4,12 +4,9 @@ use Rattle.archive.specs.Listing.{field}
 use Rattle.encoding.proofs.Putting.{left-start, left-put, left_end}
 use Rattle.archive.proofs.lines.field.Goals as goal
 
-pub returns-clause-place : goal.returns-clause-place
-returns-clause-place c = (let all = left-start c.args.out.now c.args.at (field (decimal c.args.n)) c.requires in
-    let last = left-put (decimal c.args.n) all (c.put_decimal-a.ensures.place, c.put_decimal-a.ensures.output) in
-    left_end last (c.put.ensures.place, c.put.ensures.output)).0
-
-pub returns-clause-output : goal.returns-clause-output
-returns-clause-output c = (let all = left-start c.args.out.now c.args.at (field (decimal c.args.n)) c.requires in
-    let last = left-put (decimal c.args.n) all (c.put_decimal-a.ensures.place, c.put_decimal-a.ensures.output) in
-    left_end last (c.put.ensures.place, c.put.ensures.output)).1
+pub returns : goal.returns
+returns c =
+    let all = left-start c.args.out.now c.args.at (field (decimal c.args.n)) c.requires in
+    let last = left-put (decimal c.args.n) all (c.put_decimal-after_number.ensures.place, c.put_decimal-after_number.ensures.output) in
+    let whole = left_end last (c.put.ensures.place, c.put.ensures.output) in
+    record { place = whole.0; output = whole.1 }

@@ -7,7 +7,6 @@ use lib.ListN.{length, take, drop, take-append-drop}
 use Rattle.encoding.specs.{put}
 use Rattle.encoding.proofs.Putting.{begins-start, room-put}
 use Rattle.archive.specs.Listing.{guard_field}
-use Rattle.std.proofs.Common.{ap}
 use Rattle.archive.proofs.lines.guard_field.Goals as goal
 
 -- an empty text
@@ -17,20 +16,14 @@ none-put at out h =
 
 pub field-requires : goal.field-requires
 unfolding guard_field
-field-requires c = rw c.in-At.is at c.requires
+field-requires c = rw c.in-Some.is at c.requires
 
-pub returns-in-Absent-clause-place : goal.returns-in-Absent-clause-place
+pub returns-in-None : goal.returns-in-None
 unfolding guard_field
-returns-in-Absent-clause-place c = rw c.in-Absent.is (none-put c.args.at c.args.out.now (rw c.in-Absent.is at c.requires)).0
+returns-in-None c =
+    let none = none-put c.args.at c.args.out.now (rw c.in-None.is at c.requires) in
+    record { place = rw c.in-None.is none.0; output = rw c.in-None.is none.1 }
 
-pub returns-in-Absent-clause-output : goal.returns-in-Absent-clause-output
+pub returns-in-Some : goal.returns-in-Some
 unfolding guard_field
-returns-in-Absent-clause-output c = rw c.in-Absent.is (none-put c.args.at c.args.out.now (rw c.in-Absent.is at c.requires)).1
-
-pub returns-in-At-clause-place : goal.returns-in-At-clause-place
-unfolding guard_field
-returns-in-At-clause-place c = rw c.in-At.is c.field.ensures.place
-
-pub returns-in-At-clause-output : goal.returns-in-At-clause-output
-unfolding guard_field
-returns-in-At-clause-output c = rw c.in-At.is c.field.ensures.output
+returns-in-Some c = record { place = rw c.in-Some.is c.field.ensures.place; output = rw c.in-Some.is c.field.ensures.output }

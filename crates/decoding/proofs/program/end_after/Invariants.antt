@@ -1,11 +1,7 @@
--- `end_after` meets its contract. Before each turn the operands that are left end where all of them end.
-use Prim.Native.Nat.{◌<◌}
-use mathlib.Core.Path.{◌≡◌}
+-- `end_after` meets its contract. Before each turn the expressions that are left end where all of them end.
+use Rattle.std.proofs.Common.{◌≡◌, ◌-◌}
 use Rattle.decoding.specs.Decoding.{ends_after}
 use Rattle.decoding.proofs.program.end_after.Given as goal
 
-abbrev pub invariant-loop-left : goal.invariant-loop-left
-invariant-loop-left l = (l.place < 65536) × (ends_after l.ends l.left l.place ≡ ends_after l.ends l.count l.first)
-
-abbrev pub decreases-loop-left : goal.decreases-loop-left
-decreases-loop-left l = l.left
+abbrev pub invariant-loop : goal.invariant-loop
+invariant-loop l = ends_after l.ends (l.count - l.counter) l.place ≡ ends_after l.ends l.count l.first

@@ -3,7 +3,4 @@ use Rattle.decoding.proofs.Loops.{Swept}
 use Rattle.decoding.proofs.program.put_nodes.Given as goal
 
 abbrev pub invariant-loop-at : goal.invariant-loop-at
-invariant-loop-at l = Swept l.program l.params l.functions l.initial.words l.initial.at l.ends l.words l.at
-
-abbrev pub decreases-loop-at : goal.decreases-loop-at
-decreases-loop-at l = l.at
+invariant-loop-at l = Swept l.program l.params l.functions l.initial.words l.len l.ends l.words l.at

@@ -4,19 +4,19 @@ use Rattle.evaluate.proofs.Settling.{main-small, settled_within, settled_verdict
 use Rattle.evaluate.proofs.decide.decide.Goals as goal
 
 pub offset_bounds-table-main_cell : goal.offset_bounds-table-main_cell
-offset_bounds-table-main_cell c = omega (arith, c.main_cell.ensures, main-small c.requires)
+offset_bounds-table-main_cell c = omega (arith, c.main_cell.ensures, main-small c.requires.settled c.requires.lengths)
 
 pub bounds-table-main_cell : goal.bounds-table-main_cell
 bounds-table-main_cell c = omega (
   arith,
   c.main_cell.ensures,
-  settled_within c.requires c.fill.ensures c.traces_of.ensures _ (omega arith) c.clear.ensures (c.run-passes.ensures.cells, c.run-passes.ensures.passes),
+  settled_within c.requires.settled c.requires.lengths c.fill.ensures c.traces.ensures _ (omega arith) c.clear.ensures (c.run-passes.ensures.cells, c.run-passes.ensures.passes),
 )
 
-pub returns-clause-verdict : goal.returns-clause-verdict
-returns-clause-verdict c = (settled_verdict c.requires c.fill.ensures c.traces_of.ensures _ (omega arith) c.clear.ensures (c.run-passes.ensures.cells, c.run-passes.ensures.passes)
-    c.main_cell.ensures c.main_decision.ensures).0
-
-pub returns-clause-cells : goal.returns-clause-cells
-returns-clause-cells c = (settled_verdict c.requires c.fill.ensures c.traces_of.ensures _ (omega arith) c.clear.ensures (c.run-passes.ensures.cells, c.run-passes.ensures.passes)
-    c.main_cell.ensures c.main_decision.ensures).1
+pub returns : goal.returns
+returns c =
+    let passes = c.run-passes.ensures in
+    let decided =
+    settled_verdict c.requires.settled c.requires.lengths c.fill.ensures c.traces.ensures _ (omega arith) c.clear.ensures (passes.cells, passes.passes) c.main_cell.ensures
+    c.main_decision.ensures in
+    record { verdict = decided.0; cells = decided.1 }

@@ -3,8 +3,7 @@ use native.Mathlib.Omega.{arith}
 use Rattle.evaluate.proofs.Settling.{settled_pass}
 use Rattle.evaluate.proofs.decide.pass_once.Goals as goal
 
-pub returns-clause-stored : goal.returns-clause-stored
-returns-clause-stored c = (settled_pass c.requires c.fill.ensures c.traces_of.ensures _ (omega arith) (c.pass.ensures.cells, c.pass.ensures.stored)).0
-
-pub returns-clause-cells : goal.returns-clause-cells
-returns-clause-cells c = (settled_pass c.requires c.fill.ensures c.traces_of.ensures _ (omega arith) (c.pass.ensures.cells, c.pass.ensures.stored)).1
+pub returns : goal.returns
+returns c =
+    let made = settled_pass c.requires.settled c.requires.lengths c.fill.ensures c.traces.ensures _ (omega arith) (c.pass.ensures.cells, c.pass.ensures.stored) in
+    record { stored = made.0; cells = made.1 }

@@ -1,14 +1,12 @@
--- The goals that are left.
-use mathlib.Core.Path.{◌≡◌}
-use native.Mathlib.Omega.{arith}
-use Rattle.follow.proofs.Ways.{bodies_none, bodies_more}
+-- `bodies_of` meets its contract: the word of each body is that of the place where it starts.
+use Rattle.std.proofs.Common.{rules, refl, arith}
+use Rattle.passes.specs.Mirror.{body_at}
+use Rattle.follow.proofs.Ways.{mapped}
 use Rattle.follow.proofs.run.bodies_of.Goals as goal
 
-pub loop-g-init : goal.loop-g-init
-loop-g-init c = (omega arith, bodies_none _ _)
-
-pub loop-g-preserved : goal.loop-g-preserved
-loop-g-preserved c = (omega arith, bodies_more c.loop-g.invariant.1 (omega arith) c.body_of.ensures)
-
 pub returns : goal.returns
-returns c = let all : c.loop-g.g ≡ 32 = omega arith in rw all at c.loop-g.invariant.1
+returns c = record {
+  long = c.map.ensures.items.long;
+  each = λ g l.
+      mapped _ _ (body_at c.args.words.now) (λ x y q k. search rules) c.args.starts.now c.map.result 32 0 _ refl c.map.ensures.items.each g (omega arith) l;
+}

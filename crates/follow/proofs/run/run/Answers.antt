@@ -9,12 +9,9 @@ loop-calls-init c = following-start _ _ _ _ _ _ _
 pub returns-then-sort-lt-CALL : goal.returns-then-sort-lt-CALL
 returns-then-sort-lt-CALL c = following-plain _ _ _ _ _ _ _ c.loop-calls.invariant c.loop-calls-test.true c.spine-node.ensures c.sort.ensures c.if-sort-lt-CALL.true c.eval-outcome.ensures
 
-pub overflow_add-made : goal.overflow_add-made
-overflow_add-made c = omega (arith, c.loop-calls-test.true)
-
-pub returns-then-outcome-ne-UNDECIDED : goal.returns-then-outcome-ne-UNDECIDED
-returns-then-outcome-ne-UNDECIDED c = following-stop _ _ _ _ _ _ _ c.loop-calls.invariant c.loop-calls-test.true c.spine-node.ensures c.sort.ensures c.if-sort-lt-CALL.false
-    c.arguments-outcome.ensures.stop c.if-outcome-ne-UNDECIDED.true
+pub returns-in-Err : goal.returns-in-Err
+returns-in-Err c = following-stop _ _ _ _ _ _ _ c.loop-calls.invariant c.loop-calls-test.true c.spine-node.ensures c.sort.ensures c.if-sort-lt-CALL.false
+    c.in-Err.ensures.stop
 
 pub offset_bounds-bodies-callee : goal.offset_bounds-bodies-callee
 offset_bounds-bodies-callee c = omega (arith, c.callee.ensures)
@@ -22,12 +19,9 @@ offset_bounds-bodies-callee c = omega (arith, c.callee.ensures)
 pub bounds-bodies-callee : goal.bounds-bodies-callee
 bounds-bodies-callee c = omega (arith, c.callee.ensures)
 
-pub loop-calls-smaller : goal.loop-calls-smaller
-loop-calls-smaller c = omega (arith, c.loop-calls-test.true)
-
 pub loop-calls-preserved : goal.loop-calls-preserved
 loop-calls-preserved c = following-more _ _ _ _ _ _ _ c.loop-calls.invariant c.loop-calls-test.true c.spine-node.ensures c.sort.ensures c.if-sort-lt-CALL.false
-    c.arguments-outcome.ensures.stop c.if-outcome-ne-UNDECIDED.false c.arguments-outcome.ensures.env (rw c.callee.ensures)
+    c.in_default.ensures.stop c.arguments.ensures.env (rw c.callee.ensures)
 
 pub returns : goal.returns
 returns c = following_end _ _ _ _ _ _ _ c.loop-calls.invariant c.loop-calls-test.false

@@ -8,7 +8,7 @@ loop-i-init c = size-start _ _ _
 
 pub loop-i-preserved : goal.loop-i-preserved
 loop-i-preserved c = size-more _ _ _ _ c.loop-i.invariant c.loop-i-test.true
-    c.requires.1 c.kind_at.ensures.0 c.radix-product.ensures
+    c.requires.1 c.kind_at.ensures c.radix-product.ensures
 
 pub overflow_mul-product : goal.overflow_mul-product
 overflow_mul-product c = omega (arith, size_fits _ _ _ _ (loop-i-preserved c) c.requires.0)

@@ -4,6 +4,3 @@ use Rattle.passes.proofs.configurations.size.Given as goal
 
 abbrev pub invariant-loop-i : goal.invariant-loop-i
 invariant-loop-i l = Product l.signature l.n l.count l.product l.i
-
-abbrev pub decreases-loop-i : goal.decreases-loop-i
-decreases-loop-i l = l.i

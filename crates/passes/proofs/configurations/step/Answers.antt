@@ -1,27 +1,18 @@
 -- The goals that are left.
-use mathlib.Core.Path.{refl, sym, ap, ◌∙◌}
-use Prim.Native.Nat.{ℕ, ◌-◌}
+use mathlib.Core.Path.{sym, ◌∙◌}
 use native.Mathlib.Omega.{arith}
-use lib.ListN.{set}
 use Rattle.passes.proofs.Digits.{step_stops, step_goes, step_whole, row_over}
-use Rattle.std.proofs.Common.{ap}
 use Rattle.passes.proofs.configurations.step.Goals as goal
-
-pub loop-i-init : goal.loop-i-init
-loop-i-init c = (omega arith, refl)
-
-pub up-requires : goal.up-requires
-up-requires c = c.if-env-i.true
 
 pub returns-then-env-i-clause-digits : goal.returns-then-env-i-clause-digits
 returns-then-env-i-clause-digits c = let loop = c.loop-i in
     let stops = step_stops _ _ loop.i loop.env c.loop-i-test.true c.if-env-i.true in
-    let all = ap (λ (v : ℕ). set loop.env (loop.i - 1) v) c.up.ensures ∙ stops ∙ sym loop.invariant.1 in all
+    let all = stops ∙ sym loop.invariant.1 in all
 
 pub returns-then-env-i-clause-next : goal.returns-then-env-i-clause-next
 returns-then-env-i-clause-next c = let loop = c.loop-i in
     let stops = step_stops _ _ loop.i loop.env c.loop-i-test.true c.if-env-i.true in
-    let all = ap (λ (v : ℕ). set loop.env (loop.i - 1) v) c.up.ensures ∙ stops ∙ sym loop.invariant.1 in row_over all
+    let all = stops ∙ sym loop.invariant.1 in row_over all
 
 pub loop-i-preserved : goal.loop-i-preserved
 loop-i-preserved c = let loop = c.loop-i in

@@ -6,6 +6,3 @@ use Rattle.passes.proofs.configurations.step.Given as goal
 
 abbrev pub invariant-loop-i : goal.invariant-loop-i
 invariant-loop-i l = (l.i ≤ l.slot) × (stepped l.firsts l.lasts l.slot l.initial.env ≡ stepped l.firsts l.lasts l.i l.env)
-
-abbrev pub decreases-loop-i : goal.decreases-loop-i
-decreases-loop-i l = l.i

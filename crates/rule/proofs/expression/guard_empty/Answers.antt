@@ -1,13 +1,11 @@
--- `guard_empty` meets its contract, by its two cases.
-use mathlib.Core.Path.{◌∙◌}
-use borrow.Author.Tests.{eq-eqb, ne_eqb}
+-- `guard_empty` meets its contract, by the two sorts.
 use Rattle.rule.specs.Walk.{guard_empty_walked}
 use Rattle.rule.proofs.expression.guard_empty.Goals as goal
 
-pub returns-then-contacts-eq2 : goal.returns-then-contacts-eq2
+pub returns-in-One : goal.returns-in-One
 unfolding guard_empty_walked
-returns-then-contacts-eq2 c = c.leaf.ensures ∙ simp (eq-eqb _ _ c.if-contacts-eq2.true)
+returns-in-One c = rw c.in-One.is
 
-pub returns-else-contacts-eq2 : goal.returns-else-contacts-eq2
+pub returns-in-Two : goal.returns-in-Two
 unfolding guard_empty_walked
-returns-else-contacts-eq2 c = c.refused.ensures ∙ simp (ne_eqb _ _ c.if-contacts-eq2.false)
+returns-in-Two c = rw c.in-Two.is c.leaf.ensures

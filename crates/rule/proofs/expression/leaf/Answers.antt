@@ -3,10 +3,10 @@ use mathlib.Core.Path.{sym, ◌∙◌}
 use Rattle.rule.specs.Walk.{leaf_walked}
 use Rattle.rule.proofs.expression.leaf.Goals as goal
 
-pub returns-then-allowed : goal.returns-then-allowed
+pub returns-then-allows : goal.returns-then-allows
 unfolding leaf_walked
-returns-then-allowed c = simp (sym c.allowed.ensures ∙ c.if-allowed.true)
+returns-then-allows c = simp (sym c.allows.ensures ∙ c.if-allows.true)
 
-pub returns-else-allowed : goal.returns-else-allowed
+pub returns-else-allows : goal.returns-else-allows
 unfolding leaf_walked
-returns-else-allowed c = c.wrong_kind.ensures ∙ simp (sym c.allowed.ensures ∙ c.if-allowed.false)
+returns-else-allows c = simp (sym c.allows.ensures ∙ c.if-allows.false, c.apart.ensures)

@@ -1,10 +1,13 @@
 -- `param` meets its contract, by its two cases.
 use mathlib.Core.Path.{◌∙◌}
-use Rattle.rule.proofs.Walking.{param_there, param_absent}
+use borrow.Author.Tests.{lt-ltb, le-ltb}
+use Rattle.rule.specs.Walk.{param_walked}
 use Rattle.rule.proofs.expression.param.Goals as goal
 
-pub returns-then-i-own_params : goal.returns-then-i-own_params
-returns-then-i-own_params c = param_there _ _ _ _ _ _ c.if-i-own_params.true c.kind.ensures c.leaf.ensures
+pub returns-then-i-outline : goal.returns-then-i-outline
+unfolding param_walked
+returns-then-i-outline c = c.leaf.ensures ∙ simp (lt-ltb _ _ c.if-i-outline.true, c.kind.ensures)
 
-pub returns-else-i-own_params : goal.returns-else-i-own_params
-returns-else-i-own_params c = c.refused.ensures ∙ param_absent _ _ _ _ _ _ c.if-i-own_params.false
+pub returns-else-i-outline : goal.returns-else-i-outline
+unfolding param_walked
+returns-else-i-outline c = simp (le-ltb _ _ c.if-i-outline.false)

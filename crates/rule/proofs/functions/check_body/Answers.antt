@@ -1,17 +1,14 @@
 -- `check_body` meets its contract: the expression, then nothing after it.
+use mathlib.Core.Path.{◌∙◌}
+use Rattle.refusal.proofs.Checks.{handed_on}
 use Rattle.rule.proofs.BodyWays.{body_passed, body_after, body-stopped}
-use native.Mathlib.Omega.{arith}
 use Rattle.rule.proofs.functions.check_body.Goals as goal
 
-pub overflow_add-place : goal.overflow_add-place
-overflow_add-place c = omega (arith, c.demand_for-place.ensures.1)
+pub returns-in_err-end : goal.returns-in_err-end
+returns-in_err-end c = handed_on _ c.from_residual.ensures.1 ∙ body-stopped _ c.kind.ensures c.check.ensures c.in_err-end.was
 
-pub returns-then-end-ge-STOPS : goal.returns-then-end-ge-STOPS
-returns-then-end-ge-STOPS c = body-stopped _ c.kind-result.ensures c.demand_for-place.ensures.0 c.check-end.ensures c.if-end-ge-STOPS.true
-    c.numbered.ensures
+pub returns-then-end-frame : goal.returns-then-end-frame
+returns-then-end-frame c = body_passed _ c.kind.ensures c.check.ensures c.in_ok-end.was c.if-end-frame.true
 
-pub returns-then-end-body : goal.returns-then-end-body
-returns-then-end-body c = body_passed _ c.kind-result.ensures c.demand_for-place.ensures.0 c.check-end.ensures c.if-end-ge-STOPS.false c.if-end-body.true
-
-pub returns-else-end-body : goal.returns-else-end-body
-returns-else-end-body c = body_after _ c.kind-result.ensures c.demand_for-place.ensures.0 c.check-end.ensures c.if-end-ge-STOPS.false c.if-end-body.false
+pub returns-else-end-frame : goal.returns-else-end-frame
+returns-else-end-frame c = body_after _ c.kind.ensures c.check.ensures c.in_ok-end.was c.if-end-frame.false

@@ -1,44 +1,27 @@
 -- The goals that are left.
-use mathlib.Core.Path.{sym, ◌∙◌}
+use mathlib.Core.Path.{refl, sym, ◌∙◌}
 use native.Mathlib.Omega.{arith}
-use Rattle.rule.proofs.Scanning.{scanned_start, scanned_stop, scanned_more, next_fits, scan_refused, scan_passed}
+use Rattle.refusal.proofs.Checks.{handed_on}
+use Rattle.rule.proofs.Scanning.{scanned_start, scanned_stop, scanned_more, next_fits, scan_stopped, scan_passed}
 use Rattle.rule.proofs.functions.scan_headers.Goals as goal
 
 pub loop-i-init : goal.loop-i-init
-loop-i-init c = scanned_start _ _ _ c.requires.some
+loop-i-init c = (refl, scanned_start _ _ _ c.requires.some)
 
-pub no_functions-requires : goal.no_functions-requires
-no_functions-requires c = tt
+pub returns-in_err-header : goal.returns-in_err-header
+returns-in_err-header c =
+    handed_on _ c.from_residual.ensures.1
+    ∙ scan_stopped _ _ (scanned_stop c.loop-i.invariant.1 c.loop-i-test.true (sym c.header_at.ensures ∙ c.in_err-header.was))
 
-pub returns-in-Refused : goal.returns-in-Refused
-returns-in-Refused c = scan_refused
-    _
-    _
-    (scanned_stop
-    c.loop-i.invariant
-    c.loop-i-test.true
-    (sym c.header_at.ensures ∙ c.in-Refused.is))
-    c.no_functions.ensures
-
-pub overflow_cast-end : goal.overflow_cast-end
-overflow_cast-end c = omega (arith, next_fits c.loop-i.invariant (sym c.header_at.ensures ∙ c.in-Found.is), c.header_bytes-size.ensures.0)
-
-pub overflow_add-end : goal.overflow_add-end
-overflow_add-end c = omega (arith, next_fits c.loop-i.invariant (sym c.header_at.ensures ∙ c.in-Found.is), c.header_bytes-size.ensures.0)
-
-pub overflow_cast-starts : goal.overflow_cast-starts
-overflow_cast-starts c = omega (arith, next_fits c.loop-i.invariant (sym c.header_at.ensures ∙ c.in-Found.is), c.header_bytes-size.ensures.0)
-
-pub overflow_cast-ends : goal.overflow_cast-ends
-overflow_cast-ends c = omega (arith, next_fits c.loop-i.invariant (sym c.header_at.ensures ∙ c.in-Found.is), c.header_bytes-size.ensures.0)
+pub overflow_cast-outline-in-loop-i : goal.overflow_cast-outline-in-loop-i
+overflow_cast-outline-in-loop-i c = omega (arith, next_fits c.loop-i.invariant.1 (sym c.header_at.ensures ∙ c.in_ok-header.was), c.header_bytes-size.ensures.0)
 
 pub loop-i-preserved : goal.loop-i-preserved
-loop-i-preserved c = rw c.header_bytes-size.ensures.0
-    (scanned_more
-    c.loop-i.invariant
-    c.requires.few
-    c.loop-i-test.true
-    (sym c.header_at.ensures ∙ c.in-Found.is))
+loop-i-preserved c = (
+  c.loop-i.invariant.0,
+  rw c.header_bytes-size.ensures.0
+      (scanned_more c.loop-i.invariant.1 c.requires.few c.loop-i-test.true (sym c.header_at.ensures ∙ c.in_ok-header.was)),
+)
 
 pub returns : goal.returns
-returns c = scan_passed c.loop-i.invariant c.loop-i-test.false
+returns c = scan_passed c.loop-i.invariant.0 c.loop-i.invariant.1 c.loop-i-test.false

@@ -1,63 +1,55 @@
 -- The goals that are left.
-use mathlib.Core.Path.{◌≡◌, refl, sym, ap, ◌∙◌}
-use mathlib.Core.Bool.{Bool, true, false, not, ◌&&◌, ◌||◌, or-false, or-true}
-use Prim.Native.Nat.{ℕ, zero, suc, ◌-◌, ◌<◌, ◌≤◌}
-use native.Mathlib.Numerals.{sub-one}
+use mathlib.Core.Path.{◌≡◌, refl, sym, ◌∙◌}
+use mathlib.Core.Bool.{Bool, true, false, not}
+use Prim.Native.Nat.{ℕ, zero, suc, ◌+◌, ◌-◌}
 use native.Mathlib.Omega.{arith}
-use borrow.Author.Tests.{le-leb, lt-leb}
+use native.Mathlib.Numerals.{unary_clauses}
+use borrow.Author.Tests.{lt-leb}
 use Rattle.trace.specs.{bit_of}
 use Rattle.syntax.specs.Bytes.{no_list_below}
 use Rattle.syntax.proofs.headers.guard_fault.Goals as goal
+use Rattle.syntax.proofs.headers.guard_fault.Goals.{else-bit-via-then-bit+else-not-bit, else-bit-via-else-bit}
 
--- one bit more
-one_more : (i kinds guard : ℕ) → 0 < i
-    → no_list_below i kinds guard ≡ (no_list_below (i - 1) kinds guard || (bit_of (i - 1) guard && not (bit_of (i - 1) kinds)))
+-- a bit that is set below i, where no list is, is so below every greater number
+found_below : (i more kinds guard : ℕ) → no_list_below i kinds guard ≡ true → no_list_below (i + more) kinds guard ≡ true
 unfolding no_list_below
-one_more zero kinds guard h = elim h [ ]
-one_more (suc i) kinds guard h = rw (sub-one (suc i))
+found_below i zero kinds guard e = simp unary_clauses e
+found_below i (suc more) kinds guard e = simp unary_clauses (rw (found_below i more kinds guard e) refl)
 
-module _ (i kinds guard : ℕ) (more : 0 < i) (so_far : no_list_below i kinds guard ≡ no_list_below 5 kinds guard) where
-  -- a bit that is clear, or where a list is, says nothing
-  clear : (bit_of (i - 1) guard && not (bit_of (i - 1) kinds)) ≡ false → no_list_below (i - 1) kinds guard ≡ no_list_below 5 kinds guard
-  clear e = sym (or-false _) ∙ ap (λ (b : Bool). no_list_below (i - 1) kinds guard || b) (sym e) ∙ sym (one_more i kinds guard more) ∙ so_far
+-- one bit more, where none was before it
+module _ (i kinds guard : ℕ) (so_far : no_list_below i kinds guard ≡ false) where
+  with_bit : {b k x : Bool} → b ≡ bit_of i guard → b ≡ true → k ≡ bit_of i kinds → k ≡ x → no_list_below (i + 1) kinds guard ≡ not x
+  unfolding no_list_below
+  with_bit p t q u = simp unary_clauses (rw (so_far, sym p ∙ t, sym q ∙ u) refl)
 
-  -- one that is set where no list is, is the answer
-  set : (bit_of (i - 1) guard && not (bit_of (i - 1) kinds)) ≡ true → no_list_below 5 kinds guard ≡ true
-  set e =
-      sym so_far ∙ one_more i kinds guard more ∙ ap (λ (b : Bool). no_list_below (i - 1) kinds guard || b) e ∙ or-true (no_list_below (i - 1) kinds guard)
-
--- where no bit is left, none was
-none_left : (i kinds guard : ℕ) → i ≤ 0 → no_list_below i kinds guard ≡ no_list_below 5 kinds guard → no_list_below 5 kinds guard ≡ false
-unfolding no_list_below
-none_left zero kinds guard h e = sym e
-none_left (suc i) kinds guard h e = absurd (omega arith)
-
-pub returns-then-guard-ge32 : goal.returns-then-guard-ge32
-returns-then-guard-ge32 c = simp (le-leb _ _ c.if-guard-ge32.true)
+  without : {b : Bool} → b ≡ bit_of i guard → b ≡ false → no_list_below (i + 1) kinds guard ≡ false
+  unfolding no_list_below
+  without p t = simp unary_clauses (rw (so_far, sym p ∙ t) refl)
 
 pub loop-i-init : goal.loop-i-init
-loop-i-init c = (omega arith, refl)
+unfolding no_list_below
+loop-i-init c = refl
 
 pub returns-then-not-bit : goal.returns-then-not-bit
-returns-then-not-bit c = let a = c.args in
-    let answer =
-    set c.loop-i.i a.kinds a.guard c.loop-i-test.true c.loop-i.invariant.1
-    (rw (← c.bit.ensures, ← c.bit-then-bit.ensures, c.if-bit.true, c.if-not-bit.true)) in
-    simp (lt-leb _ _ c.if-guard-ge32.false, answer)
-
-pub loop-i-preserved-else-not-bit : goal.loop-i-preserved-else-not-bit
-loop-i-preserved-else-not-bit c = let a = c.args in (
-  omega arith,
-  clear c.loop-i.i a.kinds a.guard c.loop-i-test.true c.loop-i.invariant.1
-      (rw (← c.bit.ensures, ← c.bit-then-bit.ensures, c.if-bit.true, c.if-not-bit.false)),
-)
+returns-then-not-bit c =
+    let a = c.args in
+    let i = c.loop-i.i in
+    let here = with_bit i a.kinds a.guard c.loop-i.invariant c.bit.ensures c.if-bit.true c.bit-then-bit.ensures c.if-not-bit.true in
+    let whole : i + 1 + (4 - i) ≡ 5 = omega arith in
+    let found : no_list_below 5 a.kinds a.guard ≡ true = rw whole at (found_below (i + 1) (4 - i) a.kinds a.guard here) in
+    simp (lt-leb _ _ c.if-guard-ge32.false, found)
 
 pub loop-i-preserved : goal.loop-i-preserved
-loop-i-preserved c = let a = c.args in (
-  omega arith,
-  clear c.loop-i.i a.kinds a.guard c.loop-i-test.true c.loop-i.invariant.1 (rw (← c.bit.ensures, c.if-bit.false)),
-)
+loop-i-preserved c =
+    let a = c.args in
+    elim c.else-bit.branch [
+      | else-bit-via-then-bit+else-not-bit w ↦ with_bit c.loop-i.i a.kinds a.guard c.loop-i.invariant c.bit.ensures w.if-bit.true w.bit-then-bit.ensures w.if-not-bit.false
+      | else-bit-via-else-bit w ↦ without c.loop-i.i a.kinds a.guard c.loop-i.invariant c.bit.ensures w.if-bit.false
+    ]
 
 pub returns : goal.returns
-returns c = let a = c.args in
-    simp (lt-leb _ _ c.if-guard-ge32.false, none_left c.loop-i.i a.kinds a.guard c.loop-i-test.false c.loop-i.invariant.1)
+returns c =
+    let a = c.args in
+    let end : c.loop-i.i ≡ 5 = omega arith in
+    let none : no_list_below 5 a.kinds a.guard ≡ false = rw end at c.loop-i.invariant in
+    simp (lt-leb _ _ c.if-guard-ge32.false, none)

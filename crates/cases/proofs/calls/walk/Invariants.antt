@@ -1,8 +1,0 @@
--- `walk` is safe and ends: it takes as many turns as the archive has bytes at most.
-use Rattle.cases.proofs.calls.walk.Given as goal
-
-abbrev pub invariant-loop-turns : goal.invariant-loop-turns
-invariant-loop-turns g l = Unit {0}
-
-abbrev pub decreases-loop-turns : goal.decreases-loop-turns
-decreases-loop-turns g l = l.turns
