@@ -1,22 +1,22 @@
 -- Laws of texts put into an output one after the other:
 --   length-put, length-begins     an output keeps its length
 --   begins-within                 it is at least as long as the text that it begins with
---   begins-start                  an output begins with the empty text
+--   begins-start, begins-more     a loop that copies a text to the front of an output
 --   no_room                       putting a text where there is no room for it
---   room-place, room-put, put_known, put_here     and where there is
+--   room-place, room-put, put_known, put_part     and where there is
 --   part_rest                     the part of a list from a place to its end
 --   left-start, left-room, left-more, left-put, left_end     a text put in pieces, by what is left of it
 --   left_front, front_put, front_end     and one put at the front
 use mathlib.Core.Path.{◌≡◌, refl, sym, ap, ◌∙◌}
 use mathlib.Core.Bool.{Bool, true, false}
-use mathlib.Core.List.{List, [], ◌++◌, append_assoc}
-use Prim.Native.Nat.{ℕ, ◌+◌, ◌-◌, ◌<◌, ◌≤◌}
+use mathlib.Core.List.{List, [], ◌++◌, append_assoc, append-nil}
+use Prim.Native.Nat.{ℕ, suc, ◌+◌, ◌-◌, ◌<◌, ◌≤◌}
+use native.Mathlib.Numerals.{add-one}
 use native.Mathlib.Omega.{arith}
 use borrow.Author.Tests.{leb-true, leb-false, le-leb, lt-leb}
 use lib.Dec.{leb}
-use borrow.Rule.Slice.PartMut.{put_mid}
-use lib.ListN.{length, take, drop, length-append, length-drop}
-use lib.Seq.{length-take-le, take_all, take-append_seam, drop-append_seam, take-append-add, drop-append-add, drop-drop}
+use lib.ListN.{length, get_or, take, drop, set, length-append, length-drop, drop_of_length-le}
+use lib.Seq.{length-take-le, take-suc, take_all, take-append_seam, drop-append_seam, take-append-add, drop-append-add, drop-cons, drop-drop, set_at, append_snoc}
 use Rattle.encoding.specs.{begins, put, place_after}
 
 pub length-begins : (text out : List ℕ) → length text ≤ length out → length (begins text out) ≡ length out
@@ -27,9 +27,22 @@ pub begins-within : (text out : List ℕ) → length text ≤ length (begins tex
 unfolding begins
 begins-within text out = omega (arith, length-append text (drop (length text) out))
 
+-- ---- Copying a text to the front
+
 pub begins-start : (out : List ℕ) → out ≡ begins [] out
 unfolding begins
 begins-start out = refl
+
+pub begins-more : (text out : List ℕ) (i : ℕ) → i < length text → length text ≤ length out
+    → set (begins (take i text) out) i (get_or text i 0) ≡ begins (take (i + 1) text) out
+unfolding begins
+begins-more text out i h fits =
+    let n : length (take i text) ≡ i = length-take-le i text (omega arith) in
+    let m : length (take (suc i) text) ≡ suc i = length-take-le (suc i) text (omega arith) in
+    rw (add-one i, m, n, drop-cons out i 0 (omega arith))
+    (set_at (take i text) (get_or out i 0) (drop (suc i) out) (get_or text i 0) i n
+    ∙ sym (append_snoc (take i text) (get_or text i 0) (drop (suc i) out))
+    ∙ ap (λ (l : List ℕ). l ++ drop (suc i) out) (sym (take-suc text i 0 h)))
 
 -- a text, and one more put after it
 begins_after : (text more out : List ℕ)
@@ -66,13 +79,16 @@ put_known at out {text} e h (p, o) = (p ∙ rw (← e) (room-place at text out h
 pub part_rest : (i : ℕ) (l : List ℕ) {k : ℕ} → length l ≡ k → take (k - i) (drop i l) ≡ drop i l
 part_rest i l {k} e = take_all (k - i) (drop i l) (omega (arith, length-drop i l))
 
--- a text was copied into the output at a place where there is room for it
-pub put_here : (at : ℕ) (text out : List ℕ) {copied : List ℕ} → at + length text ≤ length out → copied ≡ text
-    → put_mid at (at + length text - at) out copied ≡ put at text out
-unfolding put
-put_here at text out room e =
-    let n : at + length text - at ≡ length text = omega arith in
-    rw (e, n, le-leb (at + length text) (length out) room, drop-drop (length text) at out)
+-- a text was copied to the front of the part of an output that starts at a place
+pub put_part : (at : ℕ) (text out : List ℕ) {part : List ℕ} → at ≤ length out → length text ≤ length out - at
+    → part ≡ begins text (take (length out - at) (drop at out))
+    → (at + length text ≡ place_after at text out) × (take at out ++ (part ++ drop (length out - at) (drop at out)) ≡ put at text out)
+put_part at text out {part} h fits e =
+    let rest : length (drop at out) ≡ length out - at = length-drop at out in
+    let whole : take (length out - at) (drop at out) ≡ drop at out = part_rest at out refl in
+    let none : drop (length out - at) (drop at out) ≡ [] = drop_of_length-le (drop at out) {i = length out - at} (omega arith) in
+    let room : at + length text ≤ length out = omega arith in
+    (sym (room-place at text out room), rw (e, none, whole, append-nil (begins text (drop at out))) (sym (room-put at text out room)))
 
 pub length-put : (at : ℕ) (text out : List ℕ) → length (put at text out) ≡ length out
 length-put at text out = go (leb (at + length text) (length out)) refl

@@ -3,7 +3,7 @@
 #![tactic(auto)]
 
 ghost use Rattle.std.specs.Prelude.{◌≡◌, [], ◌∷◌, ◌<◌, ◌≤◌, length, drop};
-ghost use Rattle.encoding.specs.{low_first, from_low, decimal, place_after};
+ghost use Rattle.encoding.specs.{low_first, from_low, decimal, begins, place_after};
 ghost use Rattle.encoding.specs.{put as encoding_put};
 ghost use Rattle.encoding.specs.{figure as encoding_figure};
 
@@ -54,9 +54,19 @@ pub fn put(out: &mut [u8], at: usize, text: &[u8]) -> usize
     if len < at || len - at < size {
         return at;
     }
-    let end = at + size;
-    out[at..end].copy_from_slice(text);
-    end
+    copy(&mut out[at..], text);
+    at + size
+}
+
+// Copies a text to the front of the output. std's `copy_from_slice` between two lent slices is a call of C's `memmove`, for which the
+// library asks nobody.
+fn copy(out: &mut [u8], text: &[u8])
+    requires { length text.now ≤ length out.old }
+    ensures { out.new ≡ begins text.now out.old }
+{
+    for i in 0..text.len() {
+        out[i] = text[i];
+    }
 }
 
 // Puts a number in decimal into the output at a place, and answers the place after it. It is not printed by std's Display:

@@ -20,9 +20,9 @@ use Rattle.semantics.proofs.Theorem.{decides}
 use Rattle.rule.specs.Reading.{program_of}
 use Rattle.rule.proofs.Programs.{read-encoded}
 use Rattle.prepare.specs.declared.Prepared.{Prepared}
-use Rattle.prepare.specs.Settled.{PlacedBy, handed_in}
+use Rattle.prepare.specs.Settled.{PlacedBy}
 use Rattle.prepare.proofs.Preparing.{read-own, traces_placed}
-use Rattle.prepare.specs.Checks.{evaluate_check}
+use Rattle.prepare.specs.Checks.{handed_in, evaluate_check}
 use Rattle.evaluate.specs.Evaluate.{evaluation, evaluated_answer, table_evaluated, Demand3, pass_made, made_answer, table_passed}
 
 -- ---- Demand 3

@@ -5,7 +5,8 @@ ghost use Rattle.semantics.specs.Visits.{pass, pass_stores};
 ghost use Rattle.semantics.specs.Verdicts.{verdict_of};
 ghost use Rattle.semantics.specs.Passes.{decided_table};
 ghost use Rattle.rule.specs.Reading.{program_of};
-ghost use Rattle.prepare.specs.Settled.{IsSettled, handed_in};
+ghost use Rattle.prepare.specs.Settled.{IsSettled};
+ghost use Rattle.prepare.specs.Checks.{handed_in};
 
 use decoding::functions::WORDS;
 use prepare::Prepared;

@@ -9,8 +9,7 @@ ghost use Rattle.semantics.specs.Handed.{samples_of};
 ghost use Rattle.semantics.specs.Visits.{pass_stores};
 ghost use Rattle.semantics.specs.Verdicts.{verdict_of, verdict_values};
 ghost use Rattle.rule.specs.Reading.{program_of};
-ghost use Rattle.prepare.specs.Checks.{evaluate_check};
-ghost use Rattle.prepare.specs.Settled.{handed_in};
+ghost use Rattle.prepare.specs.Checks.{handed_in, evaluate_check};
 ghost use Rattle.evaluate.specs.Evaluate.{evaluation, evaluated_answer, table_evaluated, Demand3, pass_made, made_answer, table_passed};
 
 use prepare::Handed;

@@ -6,7 +6,7 @@
 --   Stand, stand           the places of operands stand in a word
 --   leaves_kept            whether they are leaves, by words that are the same from a place on
 --   call-word              a call, by its callee's result kind
-use Rattle.std.proofs.Common.{◌≡◌, ℕ, zero, suc, ◌+◌, ◌-◌, ◌*◌, ◌/◌, ◌%◌, ◌<◌, ◌≤◌, Some, None, Bool, true, false, cond, eqb, ltb, List, get_or, sym, refl, ap, ◌∙◌, mod-eq_of_lt, arith, ltb-true, ltb-false, eqb-true, ne_eqb}
+use Rattle.std.proofs.Common.{rules, ◌≡◌, ℕ, zero, suc, ◌+◌, ◌-◌, ◌*◌, ◌/◌, ◌%◌, ◌<◌, ◌≤◌, Some, None, Bool, true, false, cond, eqb, ltb, List, get_or, sym, refl, ap, ◌∙◌, mod-eq_of_lt, arith, ltb-true, ltb-false, eqb-true, ne_eqb}
 use Rattle.std.specs.Option.{unwrap_or}
 use borrow.Author.Tests.{eqb-false}
 use Rattle.semantics.specs.Language.{is_guard, Op, hd, tl, null}
@@ -19,7 +19,7 @@ use Rattle.decoding.specs.Words.{constant_sort, param_sort, head_sort, tail_sort
 use Rattle.decoding.specs.Words.{packed, sort_of, is_leaf, param_of, callee_of, count_of, places_of, constant_of, first_place, third_place, values_in, lowest_in}
 use Rattle.decoding.specs.Decoding.{end_at, constant_by, unary_by, conditional_by, placed, leaves_in, call_sort_of, decoded_by}
 use Rattle.decoding.proofs.Packing.{sort-packed, param-packed, callee-packed, count_packed, constant-packed, first-packed, second_packed, third_packed, places_alike, place_0, place_1, place_2, place_3}
-use Rattle.evaluator.specs.{param_at, next_index, param_in, branch_by, args_in, leaf_by, leaf_of, leaf_at, sort_by, eval_word, eval_at}
+use Rattle.evaluator.specs.{param_at, next_index, param_in, branch_by, args_in, leaf_by, leaf_of, param_leaf_of, constant_leaf_of, leaf_at, sort_by, eval_word, eval_at}
 
 -- ---- Leaves
 
@@ -35,6 +35,23 @@ leaf_other traces env w e = go (ltb (sort_of w) head_sort) refl (eqb (sort_of w)
     go false l false h true t e = absurd cc
     go false l false h false t e = let other : eqb (sort_of w) param_sort ≡ false = ne_eqb _ _ (λ q. omega (arith, ltb-false _ _ l)) in
         rw (t, other, h)
+
+-- a leaf that names a parameter is a leaf
+pub param_leaf_found : (traces env : List ℕ) (w : ℕ) {v : ℕ} → param_leaf_of traces env w ≡ Some v → leaf_of traces env w ≡ Some v
+param_leaf_found traces env w {v} e = go (eqb (sort_of w) constant_sort) e
+  where
+    go : (b : Bool) → cond b None (leaf_of traces env w) ≡ Some v → leaf_of traces env w ≡ Some v
+    go true e = absurd (search rules)
+    go false e = e
+
+-- any other is a constant, if it is a leaf
+pub constant_leaf_found : (traces env : List ℕ) (w : ℕ) → param_leaf_of traces env w ≡ None → constant_leaf_of w ≡ leaf_of traces env w
+unfolding leaf_by is_leaf
+constant_leaf_found traces env w e = go (eqb (sort_of w) constant_sort) refl e
+  where
+    go : (b : Bool) → eqb (sort_of w) constant_sort ≡ b → cond b None (leaf_of traces env w) ≡ None → cond b (Some (constant_of w)) None ≡ leaf_of traces env w
+    go true q e = rw (eqb-true (sort_of w) constant_sort q) refl
+    go false q e = sym e
 
 pub leaf_or : (traces env : List ℕ) (w : ℕ) → unwrap_or (leaf_of traces env w) (constant_of w) ≡ leaf_by traces env w
 leaf_or traces env w = go (is_leaf w) refl

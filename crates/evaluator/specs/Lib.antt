@@ -88,6 +88,13 @@ leaf_by traces env w =
 abbrev pub leaf_of : List ℕ → List ℕ → ℕ → Option ℕ
 leaf_of traces env w = cond (is_leaf w) (Some (leaf_by traces env w)) None
 
+-- the same in two: the leaves that name a parameter, and the constants
+abbrev pub param_leaf_of : List ℕ → List ℕ → ℕ → Option ℕ
+param_leaf_of traces env w = cond (eqb (sort_of w) constant_sort) None (leaf_of traces env w)
+
+abbrev pub constant_leaf_of : ℕ → Option ℕ
+constant_leaf_of w = cond (eqb (sort_of w) constant_sort) (Some (constant_of w)) None
+
 -- and the leaf at a place
 abbrev pub leaf_at : List ℕ → List ℕ → List ℕ → ℕ → ℕ
 leaf_at words traces env place = leaf_by traces env (get_or words place 0)

@@ -2,9 +2,9 @@
 // bytes of both traces and the parameter values in others; an outcome is its working number.
 #![tactic(auto)]
 
-ghost use Rattle.std.specs.Prelude.{◌≡◌, ◌%◌, ◌<◌, cond, eqb, slice_index};
-ghost use Rattle.decoding.specs.Words.{param_sort, param_of, constant_of};
-ghost use Rattle.evaluator.specs.{digit_bound, most_index, next_index, Digit, lookup_by, passed_by, working_by, leaf_of, branch_word, branch_at, call_at, call_with_at, call_one_at, call_leaves_at, eval_word};
+ghost use Rattle.std.specs.Prelude.{◌≡◌, ◌%◌, ◌<◌, slice_index};
+ghost use Rattle.decoding.specs.Words.{param_of};
+ghost use Rattle.evaluator.specs.{digit_bound, most_index, next_index, Digit, lookup_by, passed_by, working_by, param_leaf_of, constant_leaf_of, leaf_of, branch_word, branch_at, call_at, call_with_at, call_one_at, call_leaves_at, eval_word};
 
 use decoding::functions::{FUNCTIONS, STRIDE, WORDS};
 use decoding::{functions, nodes};
@@ -93,7 +93,7 @@ pub fn eval(
     }
 }
 
-// As eval; a leaf is taken at once.
+// As eval; a leaf that names a parameter is taken at once.
 #[cycle(branch_call_call_one_eval_operand)]
 pub fn operand(
     words: &[u64; WORDS],
@@ -108,7 +108,7 @@ pub fn operand(
     if depth == 0 {
         return codes::UNDECIDED;
     }
-    match leaf(traces, env, node) {
+    match param_leaf(traces, env, node) {
         Some(number) => number,
         None => eval(words, traces, table, env, depth, node),
     }
@@ -232,17 +232,28 @@ pub fn call_leaves(
     lookup(words[place], table, index)
 }
 
-// The number of the outcome of a leaf: tl of a parameter, a parameter, a constant or hd of a parameter. None for other nodes.
-#[tactic(auto, unfolding(crate::specs::leaf_by, decoding::specs::Words::is_leaf))]
+// The number of the outcome of a leaf: tl of a parameter, a parameter, its hd or a constant. None for other nodes.
 pub fn leaf(traces: &[u8; codes::TRACES_BYTES], env: &[u16; 6], node: u64) -> Option<u16>
     ensures { result ≡ leaf_of traces.now env.now node }
+{
+    match param_leaf(traces, env, node) {
+        Some(number) => Some(number),
+        None => constant_leaf(node),
+    }
+}
+
+// The same of a leaf that names a parameter. These stand apart from constants: nearly all operands and arguments name a parameter, and
+// a test for each of the three sorts finds them.
+#[tactic(auto, unfolding(crate::specs::leaf_by, decoding::specs::Words::is_leaf))]
+fn param_leaf(traces: &[u8; codes::TRACES_BYTES], env: &[u16; 6], node: u64) -> Option<u16>
+    ensures { result ≡ param_leaf_of traces.now env.now node }
 {
     let sort = nodes::sort(node);
     if sort == nodes::TAIL_PARAM {
         return Some(codes::tail(param(env, node)));
     }
-    if sort < nodes::HEAD {
-        return Some(plain(env, node, sort));
+    if sort == nodes::PARAM {
+        return Some(param(env, node));
     }
     if sort == nodes::HEAD_PARAM {
         return Some(codes::head(traces, env, param(env, node)));
@@ -250,15 +261,14 @@ pub fn leaf(traces: &[u8; codes::TRACES_BYTES], env: &[u16; 6], node: u64) -> Op
     None
 }
 
-// A parameter or a constant, by its sort.
-fn plain(env: &[u16; 6], node: u64, sort: u64) -> u16
-    ensures { result ≡ cond (eqb sort param_sort) (slice_index env.now (param_of node)) (constant_of node) }
+// A constant; None for other nodes.
+fn constant_leaf(node: u64) -> Option<u16>
+    ensures { result ≡ constant_leaf_of node }
 {
-    if sort == nodes::PARAM {
-        param(env, node)
-    } else {
-        nodes::constant(node)
+    if nodes::sort(node) == nodes::CONSTANT {
+        return Some(nodes::constant(node));
     }
+    None
 }
 
 // The working number of what a call gave, by the sort of its node.

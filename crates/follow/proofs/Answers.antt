@@ -1,5 +1,5 @@
--- What following answers, one law for each way through the code:
---   check_means                      it is checked as an evaluation is, with 24 between a program and its traces
+-- What following answers, one law for each way through the code, and check_means, which no way goes through:
+--   check_means                      the whole check is that of an evaluation, with 24 between a program and its traces
 --   program_refused                  the program is refused
 --   elsewhere_refused                a call stands elsewhere
 --   places_agree                     the checks that are left where none does
@@ -38,7 +38,7 @@ use Rattle.rule.specs.Reading as reading
 use Rattle.rule.specs.Reading.{Parsed, got, program_sort, program_for, program_of}
 use Rattle.rule.proofs.Expressions.{place-below}
 use Rattle.rule.proofs.Programs.{read-encoded, read-accepted, takes-only, accepted-sort}
-use Rattle.prepare.specs.Checks.{trace_check, table_check, check_read, evaluate_check}
+use Rattle.prepare.specs.Checks.{handed_in, trace_check, table_check, check_read, evaluate_check}
 use Rattle.prepare.proofs.Preparing.{read-own, table_passed_lem, Own, checks_agree, settled_own, cells_left, traces_placed, IsSettled-placed}
 use Rattle.evaluate.specs.Evaluate.{answer_by, evaluation}
 use Rattle.chains.specs.declared.Followed.{Followed}
@@ -50,7 +50,7 @@ use Rattle.loops.proofs.LoopsMeaning.{loops_mean}
 use Rattle.follow.specs.Mirror.{check_by}
 use Rattle.follow.specs.Follow.{loops_check, limit_check, follow_read, follow_check, following_of, following_answer, FollowDemand, AsTable, ToldDecision}
 use Rattle.loops.specs.{loops_by}
-use Rattle.prepare.specs.Settled.{places_check, PlacedBy, IsSettled, handed_in}
+use Rattle.prepare.specs.Settled.{places_check, PlacedBy, IsSettled}
 use Rattle.prepare.specs.declared.Prepared.{Prepared}
 use Rattle.rule.specs.Reading.{check_from, program_check, program_in}
 

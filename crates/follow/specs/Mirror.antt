@@ -112,6 +112,6 @@ run_from words traces table bodies (suc left) made env body =
 abbrev pub whole_values : Lengths → List ℕ
 whole_values n = (n.ram + suffix_code) ∷ (n.guard + guard_code) ∷ 0 ∷ 0 ∷ (n.ram + ram_offset) ∷ (n.guard + guard_offset) ∷ []
 
--- the check of following, by that of an evaluation with room for all cells that there can be
+-- the whole check of following, by that of an evaluation with room for all cells that there can be; the code asks its parts one by one
 unfoldable pub check_by : List ℕ → Check → Outline → Check
 check_by bytes c outline = cond (eqb outline.functions 0) c (cond (loops_by bytes outline) c (Err CallElsewhere))

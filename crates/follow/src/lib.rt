@@ -8,7 +8,7 @@ ghost use Rattle.std.specs.Prelude.{◌≡◌};
 ghost use Rattle.refusal.specs.{answer_if};
 ghost use Rattle.semantics.specs.Handed.{samples_of};
 ghost use Rattle.rule.specs.Reading.{program_of};
-ghost use Rattle.prepare.specs.Settled.{handed_in};
+ghost use Rattle.prepare.specs.Checks.{handed_in};
 ghost use Rattle.chains.specs.Following.{followed, followed_values};
 ghost use Rattle.follow.specs.Follow.{follow_check, following_of, following_answer, FollowDemand, AsTable, ToldDecision};
 

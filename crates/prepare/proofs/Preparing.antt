@@ -4,7 +4,8 @@
 --   lengths_passed, table_passed_lem        lengths, and a number of cells, that are not refused
 --   Own, own                            the program passes, and the outline is its own
 --   checks_agree                        the checks that are left once the program is checked
---   settled, settled_own, outline_left, cells_left   what they leave if they pass
+--   settled, settled_own, cells_left    what they leave if they pass
+--   outline_judged, outline_refused     the outline that is told
 --   traces_placed, IsSettled-placed     what is prepared then
 --   trace_passed, trace-passes          traces that are not refused
 --   packed-passes                       packed samples are such traces
@@ -16,7 +17,7 @@ use lib.Dec.{eqb, ltb}
 use lib.ListN.{length}
 use borrow.Author.Tests.{ltb-false, eqb-true, not-false, le-ltb, eq-eqb}
 use Rattle.refusal.specs.declared.Refusal.{Refusal}
-use Rattle.refusal.specs.{Check, passed, told, ◌then◌}
+use Rattle.refusal.specs.{Check, passed, ◌then◌}
 use Rattle.std.specs.Prelude.{Result, Ok, Err, Some, IfOk}
 use Rattle.refusal.proofs.Numbers.{refused, value_same}
 use Rattle.refusal.proofs.Checks.{then_passed, either_passed}
@@ -29,16 +30,17 @@ use Rattle.semantics.specs.Handed.{Handed, handed, samples_of}
 use Rattle.semantics.specs.Numbering.{cells, most_cells}
 use Rattle.rule.specs.declared.Outline.{Outline}
 use Rattle.syntax.specs.Limits.{most_functions}
-use Rattle.rule.specs.Form.{AreBytes, Accepted}
-use Rattle.rule.specs.Outline.{outline_of, outline_from, judged, judged_from}
+use Rattle.rule.specs.Form.{AreBytes, Accepted, padded}
+use Rattle.rule.specs.Outline.{starts_from, ends_from, outline_of, outline_from, judged, judged_from}
 use Rattle.rule.specs.Reading.{Parsed, got, check_from, program_sort, program_for, program_check}
 use Rattle.rule.specs.Reading as reading
 use Rattle.rule.proofs.Programs.{read-encoded, accepted-sort, takes-own, takes-only, passed_accepted}
 use Rattle.prepare.specs.declared.Prepared.{Prepared}
-use Rattle.prepare.specs.Checks.{length_check, lengths_check, padding_check, trace_check, table_check, check_read, evaluate_check}
+use Rattle.prepare.specs.declared.NotPrepared.{NotPrepared}
+use Rattle.prepare.specs.Checks.{handed_in, length_check, lengths_check, padding_check, trace_check, table_check, check_read, evaluate_check, told_by}
 use Rattle.passes.specs.declared.setup.Cells.{Cells}
 use Rattle.passes.specs.Mirror.{heads_of, functions_of, total_of}
-use Rattle.prepare.specs.Settled.{Settled, IsSettled, handed_in, lengths_of, places_check, PlacedBy}
+use Rattle.prepare.specs.Settled.{Settled, IsSettled, lengths_of, places_check, PlacedBy}
 use Rattle.passes.proofs.SetupLoops.{functions_of_lem, total_of_lem}
 use Rattle.passes.proofs.FunctionsMeaning.{total_means}
 use Rattle.passes.proofs.SetupMeaning.{lengths_are}
@@ -111,26 +113,6 @@ module _ {bytes : List ℕ} (h : Handed) {P : Program} (a : Accepted bytes h.sor
       go (Ok u) q = rw (total_is (lengths_passed h refl q))
       go (Err f) q = refl
 
-  left_settled : (lent : ℕ) (r : Result Prepared Refusal) → told r ≡ places_check outline h lent → IfOk r (λ p. PlacedBy bytes outline h p)
-      → IfOk r (λ p. Settled bytes h p.outline p.cells lent)
-  unfolding outline_of
-  left_settled lent (Ok p) e u =
-      let both = then_passed (trace_check h) _ (sym e) in
-      let fit = lengths_passed h refl (then_passed (lengths_check h) _ both.0).0 in
-      let r = table_passed_lem (total_of (heads_of outline) (lengths_of h) outline.functions) lent refl both.1 in
-      record {
-        program = P;
-        accepted = a;
-        few = fit.few;
-        packed = fit.packed;
-        laid = u.outline ∙ l;
-        first = u.functions ∙ functions_of_lem (heads_of outline) (lengths_of h) outline.functions fit.few functions-few ∙ rw l;
-        total = u.total ∙ total_is fit;
-        fits = rw (total_is fit) at r.1;
-        room = rw (total_is fit) at r.0;
-      }
-  left_settled lent (Err f) e u = tt
-
 -- what the checks leave if they pass, of places that are those of the functions
 module _ {bytes : List ℕ} (h : Handed) {P : Program} (a : Accepted bytes h.sort P) {outline : Outline}
     (l : outline ≡ outline_from (program_sort bytes) (program_for (Some h.sort) bytes)) (fit : LengthsFit h) {places : Cells}
@@ -157,26 +139,50 @@ module _ {bytes : List ℕ} (h : Handed) {P : Program} (a : Accepted bytes h.sor
         room = rw all at r.0;
       }
 
+-- the outline that is told is that of what the bytes are read as
+pub outline_judged : (bytes : List ℕ) (s : Sort) {outline : Outline} → Ok outline ≡ judged (Some s) bytes
+    → outline ≡ outline_from (program_sort bytes) (program_for (Some s) bytes)
+unfolding judged
+outline_judged bytes s {outline} e = go (program_for (Some s) bytes) e
+  where
+    go : (q : Parsed Program) → Ok outline ≡ judged_from (program_sort bytes) q → outline ≡ outline_from (program_sort bytes) q
+    go (got P rest) k = value_same k
+    go (reading.refused f) k = absurd (refused (sym k))
+
+-- the outline of no functions is the same for both sorts
+no_outline : (s : Sort) → outline_of Sort.One [] ≡ outline_of s []
+unfolding outline_of padded starts_from ends_from
+no_outline s = refl
+
+pub outline_refused : (bytes : List ℕ) (s : Sort) {f : Refusal} → Err f ≡ judged (Some s) bytes
+    → outline_of Sort.One [] ≡ outline_from (program_sort bytes) (program_for (Some s) bytes)
+unfolding judged
+outline_refused bytes s {f} e = go (program_for (Some s) bytes) e
+  where
+    go : (q : Parsed Program) → Err f ≡ judged_from (program_sort bytes) q → outline_of Sort.One [] ≡ outline_from (program_sort bytes) q
+    go (got P rest) k = absurd (refused k)
+    go (reading.refused g) k = no_outline (program_sort bytes)
+
 module _ {bytes : List ℕ} (h : Handed) {outline : Outline} (o : Own bytes h.sort outline) (lent : ℕ) where
   pub checks_agree : places_check outline h lent ≡ evaluate_check bytes h lent
   checks_agree = agree h o.accepted o.laid lent
 
-  pub settled_own : (r : Result Prepared Refusal) → told r ≡ places_check outline h lent → IfOk r (λ p. PlacedBy bytes outline h p)
+  -- what was prepared of an accepted program is settled
+  pub settled_own : (r : Result Prepared NotPrepared) → told_by r ≡ places_check outline h lent → IfOk r (λ p. PlacedBy bytes outline h p)
       → IfOk r (λ p. Settled bytes h p.outline p.cells lent)
-  settled_own r e u = left_settled h o.accepted o.laid lent r e u
+  settled_own (Ok p) e u =
+      let both = then_passed (trace_check h) _ (sym e) in
+      let parts = then_passed (lengths_check h) _ both.0 in
+      let set = padding_set h.ram h.n || padding_set h.guard h.m in
+      let read : outline ≡ outline_from (program_sort bytes) (program_for (Some h.sort) bytes) =
+      rw (read-own bytes h.sort o.program o.accepted, accepted-sort bytes h.sort o.program o.accepted) o.laid in
+      let table : table_check p.cells.total lent ≡ passed = rw u.total both.1 in
+      rw u.outline (settled h o.accepted read (lengths_passed h refl parts.0) (u.functions) (u.total) lent set {d = passed}
+      (sym (rw parts.1 table)) refl)
+  settled_own (Err kept) e u = tt
 
--- the outline and the cells, as the bytes are read
+-- the cells, by the outline that is told
 module _ (bytes : List ℕ) (h : Handed) (outline : Outline) where
-  pub outline_left : (s : Sort) (r : Result Prepared Refusal) → Ok outline ≡ judged (Some s) bytes → IfOk r (λ p. PlacedBy bytes outline h p)
-      → IfOk r (λ p. p.outline ≡ outline_from (program_sort bytes) (program_for (Some s) bytes))
-  unfolding judged
-  outline_left s (Ok p) e u = u.outline ∙ go (program_for (Some s) bytes) e
-    where
-      go : (q : Parsed Program) → Ok outline ≡ judged_from (program_sort bytes) q → outline ≡ outline_from (program_sort bytes) q
-      go (got P rest) k = value_same k
-      go (reading.refused f) k = absurd (refused (sym k))
-  outline_left s (Err f) e u = tt
-
   pub cells_left : (r : Result Prepared Refusal) → IfOk r (λ p. PlacedBy bytes outline h p) → IfOk r (λ p. PlacedBy bytes p.outline h p)
   cells_left (Ok p) u = record { program = u.program; sort = u.sort; ram = u.ram; guard = u.guard; outline = refl; lengths = u.lengths; functions = rw u.outline u.functions; total = rw u.outline u.total }
   cells_left (Err f) u = tt

@@ -1,12 +1,19 @@
 -- 'What is refused' of documents 01 and 02: the refusals of evaluating, 5 to 17 with 25 and 26, 20, 23 and 21.
-use Rattle.std.specs.Prelude.{ℕ, Bool, not, ◌||◌, List, eqb, ltb, length, Some, Err}
+use Rattle.std.specs.Prelude.{ℕ, Bool, not, ◌||◌, List, eqb, ltb, length, Some, Result, Ok, Err}
 use Rattle.refusal.specs.declared.Refusal.TheVariants.{TraceLength, TableShort, PaddingSet}
-use Rattle.refusal.specs.{Check, refuse_if, ◌then◌}
+use Rattle.refusal.specs.{Check, passed, refuse_if, ◌then◌}
 use Rattle.trace.specs.{most_samples, bytes_for, padding_set}
 use Rattle.semantics.specs.Language.{Program}
-use Rattle.semantics.specs.Handed.{Handed, samples_of}
+use Rattle.semantics.specs.Handed.{Handed, handed, samples_of}
 use Rattle.semantics.specs.Numbering.{cells, most_cells}
 use Rattle.rule.specs.Reading.{Parsed, got, refused, program_for}
+use Rattle.prepare.specs.declared.Handed as given
+use Rattle.prepare.specs.declared.Prepared.{Prepared}
+use Rattle.prepare.specs.declared.NotPrepared.{NotPrepared}
+
+-- the traces that an operation is handed, with their numbers of samples
+abbrev pub handed_in : given.Handed → Handed
+handed_in t = handed t.sort t.ram.now t.n t.guard.now t.m
 
 -- 20: 'a lent trace has n above 4,095 or not n / 8 rounded up bytes'
 abbrev pub length_check : ℕ → ℕ → Check
@@ -34,3 +41,8 @@ check_read (refused f) h lent = Err f
 
 unfoldable pub evaluate_check : List ℕ → Handed → ℕ → Check
 evaluate_check program h lent = check_read (program_for (Some h.sort) program) h lent
+
+-- what preparing tells of them
+abbrev pub told_by : Result Prepared NotPrepared → Check
+told_by (Ok p) = passed
+told_by (Err kept) = Err kept.refusal

@@ -1,15 +1,16 @@
 // What an evaluation begins with: its checks, and where the functions and their cells stand.
 #![tactic(auto)]
 
-ghost use Rattle.std.specs.Prelude.{◌≡◌, Some, IfOk};
-ghost use Rattle.refusal.specs.{told};
+ghost use Rattle.std.specs.Prelude.{◌≡◌, ◌||◌, [], Some, IfOk, replicate};
+ghost use Rattle.refusal.specs.{told, ◌then◌};
+ghost use Rattle.semantics.specs.declared.Sort.TheVariants as Sort;
 ghost use Rattle.semantics.specs.Handed.{one_trace, two_traces};
-ghost use Rattle.rule.specs.Reading.{program_sort, program_for};
-ghost use Rattle.rule.specs.Outline.{outline_from};
+ghost use Rattle.rule.specs.Reading.{program_sort, program_for, program_check};
+ghost use Rattle.rule.specs.Outline.{outline_of, outline_from};
 ghost use Rattle.decoding.specs.Decoding.{words_filled};
 ghost use Rattle.passes.specs.Mirror.{traces_of};
-ghost use Rattle.prepare.specs.Checks.{length_check, table_check, evaluate_check};
-ghost use Rattle.prepare.specs.Settled.{Settled, handed_in, places_check, PlacedBy};
+ghost use Rattle.prepare.specs.Checks.{handed_in, length_check, lengths_check, padding_check, table_check, evaluate_check, told_by};
+ghost use Rattle.prepare.specs.Settled.{Settled, lengths_of, functions_by, total_by, outline_told, cells_told, places_check, PlacedBy};
 
 use codes::Lengths;
 use decoding::functions::WORDS;
@@ -68,6 +69,23 @@ pub struct Prepared<'a> {
     pub cells: Cells,
 }
 
+// Why nothing is prepared, with what was found until then: where the functions stand, of a program that is refused those of none; and where
+// the cells do, none where the program or the length of a trace is refused.
+#[derive(Clone, Copy)]
+pub struct NotPrepared {
+    pub refusal: Refusal,
+    pub outline: Outline,
+    pub cells: Cells,
+}
+
+impl From<NotPrepared> for Refusal {
+    ghost from_gives = { λ kept refusal. refusal ≡ kept.refusal };
+
+    fn from(kept: NotPrepared) -> Refusal {
+        kept.refusal
+    }
+}
+
 impl Prepared<'_> {
     // Writes the words of the program.
     pub fn fill(&self, words: &mut [u64; WORDS])
@@ -96,14 +114,17 @@ pub fn prepare<'a>(
     program: &'a [u8],
     handed: Handed<'a>,
     lent: usize,
-) -> Result<Prepared<'a>, Refusal>
-    ensures check { told result ≡ evaluate_check program.now (handed_in handed.entry) lent }
+) -> Result<Prepared<'a>, NotPrepared>
+    ensures check { told_by result ≡ evaluate_check program.now (handed_in handed.entry) lent }
     ensures settled { IfOk result (λ p. Settled program.now (handed_in handed.entry) p.outline p.cells lent) }
-    ensures outline { IfOk result (λ p. p.outline ≡ outline_from (program_sort program.now) (program_for (Some handed.entry.sort) program.now)) }
-    ensures cells { IfOk result (λ p. PlacedBy program.now p.outline (handed_in handed.entry) p) }
+    ensures outline { outline_told result ≡ outline_from (program_sort program.now) (program_for (Some handed.entry.sort) program.now) }
+    ensures cells { ((cells_told result).functions ≡ functions_by (program_check (Some handed.entry.sort) program.now then lengths_check (handed_in handed.entry)) (outline_told result) (lengths_of (handed_in handed.entry))) × ((cells_told result).total ≡ total_by (program_check (Some handed.entry.sort) program.now then lengths_check (handed_in handed.entry)) (outline_told result) (lengths_of (handed_in handed.entry))) }
+    ensures placed { IfOk result (λ p. PlacedBy program.now p.outline (handed_in handed.entry) p) }
 {
-    let outline = rule::check_sorts(program, Some(handed.sort))?;
-    places(program, outline, handed, lent)
+    match rule::check_sorts(program, Some(handed.sort)) {
+        Ok(outline) => placed(program, outline, handed, lent),
+        Err(refusal) => Err(without_cells(refusal, no_functions())),
+    }
 }
 
 // The same, once the program is checked: the traces, the room, and where the cells stand by where the functions do.
@@ -116,10 +137,23 @@ pub fn places<'a>(
     ensures check { told result ≡ places_check outline (handed_in handed.entry) lent }
     ensures cells { IfOk result (λ p. PlacedBy program.now outline (handed_in handed.entry) p) }
 {
-    length_check(handed.n, handed.ram.len())?;
-    length_check(handed.m, handed.guard.len())?;
-    if trace::padding_set(handed.ram, handed.n) || trace::padding_set(handed.guard, handed.m) {
-        return Err(Refusal::PaddingSet);
+    Ok(placed(program, outline, handed, lent)?)
+}
+
+// The same, with what was found beside a refusal.
+fn placed<'a>(
+    program: &'a [u8],
+    outline: Outline,
+    handed: Handed<'a>,
+    lent: usize,
+) -> Result<Prepared<'a>, NotPrepared>
+    ensures check { told_by result ≡ places_check outline (handed_in handed.entry) lent }
+    ensures outline { outline_told result ≡ outline }
+    ensures cells { ((cells_told result).functions ≡ functions_by (lengths_check (handed_in handed.entry)) outline (lengths_of (handed_in handed.entry))) × ((cells_told result).total ≡ total_by (lengths_check (handed_in handed.entry)) outline (lengths_of (handed_in handed.entry))) }
+    ensures placed { IfOk result (λ p. PlacedBy program.now outline (handed_in handed.entry) p) }
+{
+    if let Err(refusal) = lengths_check(handed) {
+        return Err(without_cells(refusal, outline));
     }
     let lengths = Lengths {
         ram: handed.n as u16,
@@ -132,14 +166,58 @@ pub fn places<'a>(
         &outline.guards,
         lengths,
     );
-    table_check(cells.total, lent)?;
-    Ok(Prepared {
-        program,
-        handed,
+    let ram = trace::padding_set(handed.ram, handed.n);
+    let guard = trace::padding_set(handed.guard, handed.m);
+    match padding_then_table(ram, guard, cells.total, lent) {
+        Ok(()) => Ok(Prepared {
+            program,
+            handed,
+            outline,
+            lengths,
+            cells,
+        }),
+        Err(refusal) => Err(NotPrepared {
+            refusal,
+            outline,
+            cells,
+        }),
+    }
+}
+
+// A refusal, with no cells.
+fn without_cells(refusal: Refusal, outline: Outline) -> NotPrepared
+    ensures { (result.refusal ≡ refusal) × (result.outline ≡ outline) × (result.cells.functions ≡ replicate 96 0) × (result.cells.total ≡ 0) }
+{
+    NotPrepared {
+        refusal,
         outline,
-        lengths,
-        cells,
-    })
+        cells: Cells {
+            functions: [0; 96],
+            total: 0,
+        },
+    }
+}
+
+// The outline of no functions.
+fn no_functions() -> Outline
+    ensures { result ≡ outline_of Sort.One [] }
+{
+    Outline {
+        functions: 0,
+        params: [0; 32],
+        kinds: [0; 32],
+        guards: [0; 32],
+        starts: [0; 32],
+        ends: [0; 32],
+    }
+}
+
+// 20, of both traces.
+fn lengths_check(handed: Handed) -> Result<(), Refusal>
+    ensures { result ≡ lengths_check (handed_in handed.entry) }
+{
+    length_check(handed.n, handed.ram.len())?;
+    length_check(handed.m, handed.guard.len())
 }
 
 // 20.
@@ -152,10 +230,13 @@ fn length_check(n: usize, bytes: usize) -> Result<(), Refusal>
     Ok(())
 }
 
-// 21.
-fn table_check(needed: u64, lent: usize) -> Result<(), Refusal>
-    ensures { result ≡ table_check needed lent }
+// 23, of either trace, then 21.
+fn padding_then_table(ram: bool, guard: bool, needed: u64, lent: usize) -> Result<(), Refusal>
+    ensures { result ≡ (padding_check (ram || guard) then table_check needed lent) }
 {
+    if ram || guard {
+        return Err(Refusal::PaddingSet);
+    }
     if (lent as u64) < needed || semantics::MOST_CELLS < needed {
         return Err(Refusal::TableShort);
     }

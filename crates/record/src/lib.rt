@@ -7,7 +7,7 @@ ghost use Rattle.std.specs.Prelude.{◌≡◌, ◌∷◌, length, Some};
 ghost use Rattle.refusal.specs.{answer_if};
 ghost use Rattle.semantics.specs.Verdicts.{verdict_values};
 ghost use Rattle.rule.specs.Reading.{program_check};
-ghost use Rattle.prepare.specs.Settled.{handed_in};
+ghost use Rattle.prepare.specs.Checks.{handed_in};
 ghost use Rattle.layout.specs.Trailer.{part_of, parts_in, read_by};
 ghost use Rattle.record.specs.Reading.{read_check, reading, parts_values, read_answer};
 ghost use Rattle.record.specs.Recording.{worked_out, record_of, write_check, writing, written, written_answer, output_written, table_written, RecordDemand3};

@@ -3,7 +3,7 @@
 #![tactic(auto)]
 
 ghost use Rattle.std.specs.Prelude.{◌≡◌};
-ghost use Rattle.refusal.specs.{number_of, check_number, Numbers};
+ghost use Rattle.refusal.specs.{number_of, check_number, check_of, Numbers};
 
 // What is wrong, in the order of the numbers.
 #[derive(Clone, Copy, Debug, PartialEq, Eq)]
@@ -52,6 +52,16 @@ pub fn check_number(check: Result<(), Refusal>) -> u32
     match check {
         Ok(()) => 0,
         Err(refusal) => u32::from(refusal),
+    }
+}
+
+// The check with a number: the refusal that has it, or that nothing is wrong where none has it, as 0.
+pub fn numbered(number: usize) -> Result<(), Refusal>
+    ensures { result ≡ check_of number }
+{
+    match Refusal::try_from(number) {
+        Ok(refusal) => Err(refusal),
+        Err(_) => Ok(()),
     }
 }
 

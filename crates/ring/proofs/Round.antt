@@ -1,4 +1,5 @@
 -- Laws of lists that go round, over any element:
+--   drop_parted                  what is left of two lists one after the other
 --   length_last, last-all        the last k of a list: how many, and all of it
 --   last-append                  only the last of what was there bears on the last of a longer list
 --   length-around                the elements going round from a place
@@ -10,13 +11,30 @@ use mathlib.Core.List.{List, [], ◌∷◌, ◌++◌, append_assoc, append-nil}
 use Prim.Native.Nat.{ℕ, suc, ◌+◌, ◌-◌, ◌<◌, ◌≤◌, min}
 use native.Mathlib.Numerals.{add-one}
 use native.Mathlib.Omega.{arith}
-use lib.Dec.{eqb}
+use lib.Dec.{eqb, leb}
 use lib.ListN.{length, take, drop, set, length-append, length-take, length-drop, length-set}
-use lib.Seq.{drop-cons, drop-length, take-length, drop-append-le, drop-drop, drop-set-lt, take-suc-set}
-use borrow.Author.Tests.{eqb-true}
+use lib.Seq.{drop-cons, drop-length, take-length, drop-append-le, drop-append-add, drop-drop, drop-set-lt, take-suc-set}
+use borrow.Author.Tests.{eqb-true, leb-true, leb-false}
 use Rattle.ring.specs.{around, last_of, following}
 
 module _ {A : Type 0} where
+  -- ---- A list in two parts
+
+  pub drop_parted : (n : ℕ) (a b : List A) → drop n (a ++ b) ≡ drop (min n (length a)) a ++ drop (n - min n (length a)) b
+  drop_parted n a b = go (leb n (length a)) refl
+    where
+      go : (c : Bool) → leb n (length a) ≡ c → drop n (a ++ b) ≡ drop (min n (length a)) a ++ drop (n - min n (length a)) b
+      go true e =
+          let h : n ≤ length a = leb-true n (length a) e in
+          let least : min n (length a) ≡ n = omega (arith, h) in
+          let none : n - n ≡ 0 = omega arith in
+          rw (least, none) (drop-append-le n a b h)
+      go false e =
+          let h : length a < n = leb-false n (length a) e in
+          let least : min n (length a) ≡ length a = omega (arith, h) in
+          let rest : n ≡ length a + (n - length a) = omega (arith, h) in
+          rw (least, drop-length a) (ap (λ (m : ℕ). drop m (a ++ b)) rest ∙ drop-append-add a b (n - length a))
+
   -- ---- The last of a list
 
   pub length_last : (k : ℕ) (l : List A) → length (last_of k l) ≡ min k (length l)

@@ -100,8 +100,11 @@ fn write_held(slots: &[u8], ring: Ring, out: &mut [u8])
     requires { Sound (length slots.now) ring × (bytes_for ring.count ≤ length out.old) }
     ensures { out.new ≡ packed_into out.old (held slots.now ring) }
 {
-    let oldest_first = slots[ring.next..].iter().chain(&slots[..ring.next]);
-    for (i, byte) in oldest_first.skip(slots.len() - ring.count).enumerate() {
+    let later = &slots[ring.next..];
+    let unheld = slots.len() - ring.count;
+    let passed = unheld.min(later.len());
+    let oldest = later[passed..].iter();
+    for (i, byte) in oldest.chain(&slots[unheld - passed..ring.next]).enumerate() {
         trace::write(out, i, *byte != 0);
     }
 }

@@ -43,18 +43,29 @@ const EITHER_LIST: Place = Place {
     fault: Fault::InOperand,
 };
 
+// The operand of tl, where a list of the ram is demanded, and where one of the guard is.
+const RAM_LIST: Place = Place {
+    demand: Demand::Only(Kind::List(Contact::Ram)),
+    fault: Fault::InOperand,
+};
+
+const GUARD_LIST: Place = Place {
+    demand: Demand::Only(Kind::List(Contact::Guard)),
+    fault: Fault::InOperand,
+};
+
 // The position after the expression at a position in a body, with so much depth left, if it meets what its place demands; or
 // its refusal. An expression ends where its last operand does: of hd, tl, null and an if, a turn of the loop goes on to that one, which
 // spares a call.
-#[cycle(call_check)]
+#[cycle(call_check_operand)]
 pub fn check(
     frame: &Frame,
-    mut place: Place,
+    mut place: &Place,
     mut depth: usize,
     mut at: usize,
 ) -> Result<usize, Refusal>
     requires { Sized (frame_of frame.now) }
-    ensures { result ≡ check_at (frame_of frame.now) depth place at }
+    ensures { result ≡ check_at (frame_of frame.now) depth place.now at }
 {
     loop {
         if frame.body.len() <= at {
@@ -75,26 +86,46 @@ pub fn check(
                 if !place.demand.allows(Kind::Truth) {
                     return Err(apart(place.fault));
                 }
-                place = EITHER_LIST;
+                place = &EITHER_LIST;
                 at = next;
             }
             // a list of the contact that is demanded
             Node::Tail => {
-                if place.demand.allows(Kind::Truth) {
-                    return Err(apart(place.fault));
-                }
-                place.fault = Fault::InOperand;
+                place = match place.demand {
+                    Demand::Only(Kind::Truth) => return Err(apart(place.fault)),
+                    Demand::Only(Kind::List(Contact::Ram)) => &RAM_LIST,
+                    Demand::Only(Kind::List(Contact::Guard)) => &GUARD_LIST,
+                    Demand::AnyList => &EITHER_LIST,
+                };
                 at = next;
             }
             Node::If => {
-                let second = check(frame, CONDITION, depth, next)?;
-                at = check(frame, place, depth, second)?;
+                let second = operand(frame, &CONDITION, depth, next)?;
+                at = operand(frame, place, depth, second)?;
             }
             Node::Cons => return Err(Refusal::ListConstructor),
             Node::Call(g) => return call(frame, place, depth, next, g),
             Node::Unknown => return Err(Refusal::UnknownByte),
         }
     }
+}
+
+// The same for the condition and the first branch of an if. A Bool, the empty ram list and a parameter are judged without a call.
+#[inline(always)]
+#[cycle(call_check_operand)]
+fn operand(frame: &Frame, place: &Place, depth: usize, at: usize) -> Result<usize, Refusal>
+    requires { Sized (frame_of frame.now) }
+    ensures { result ≡ check_at (frame_of frame.now) depth place.now at }
+{
+    if at < frame.body.len() && depth != 0 {
+        match node_of(frame.body[at]) {
+            Node::False | Node::True => return leaf(place, Kind::Truth, at + 1),
+            Node::Empty => return leaf(place, Kind::List(Contact::Ram), at + 1),
+            Node::Param(i) => return param(frame, place, i, at + 1),
+            _ => {}
+        }
+    }
+    check(frame, place, depth, at)
 }
 
 // The refusal of a node of the wrong kind, by where it stands.
@@ -109,8 +140,8 @@ fn apart(fault: Fault) -> Refusal
 }
 
 // A node with no operands.
-fn leaf(place: Place, kind: Kind, next: usize) -> Result<usize, Refusal>
-    ensures { result ≡ leaf_walked place kind next }
+fn leaf(place: &Place, kind: Kind, next: usize) -> Result<usize, Refusal>
+    ensures { result ≡ leaf_walked place.now kind next }
 {
     if place.demand.allows(kind) {
         Ok(next)
@@ -120,8 +151,8 @@ fn leaf(place: Place, kind: Kind, next: usize) -> Result<usize, Refusal>
 }
 
 // The empty guard list, of a program of a sort.
-fn guard_empty(sort: Sort, place: Place, next: usize) -> Result<usize, Refusal>
-    ensures { result ≡ guard_empty_walked sort place next }
+fn guard_empty(sort: Sort, place: &Place, next: usize) -> Result<usize, Refusal>
+    ensures { result ≡ guard_empty_walked sort place.now next }
 {
     match sort {
         Sort::One => Err(Refusal::UnknownByte),
@@ -130,9 +161,9 @@ fn guard_empty(sort: Sort, place: Place, next: usize) -> Result<usize, Refusal>
 }
 
 // Parameter i of the function whose body is checked.
-fn param(frame: &Frame, place: Place, i: u8, next: usize) -> Result<usize, Refusal>
+fn param(frame: &Frame, place: &Place, i: u8, next: usize) -> Result<usize, Refusal>
     requires { Sized (frame_of frame.now) }
-    ensures { result ≡ param_walked (frame_of frame.now) place i next }
+    ensures { result ≡ param_walked (frame_of frame.now) place.now i next }
 {
     let outline = frame.outline;
     if i < outline.params[frame.own] {
@@ -151,10 +182,10 @@ fn param(frame: &Frame, place: Place, i: u8, next: usize) -> Result<usize, Refus
 }
 
 // A call of a function, with its arguments.
-#[cycle(call_check)]
-fn call(frame: &Frame, place: Place, depth: usize, at: usize, callee: u8) -> Result<usize, Refusal>
+#[cycle(call_check_operand)]
+fn call(frame: &Frame, place: &Place, depth: usize, at: usize, callee: u8) -> Result<usize, Refusal>
     requires { Sized (frame_of frame.now) }
-    ensures { result ≡ call_walked_at (frame_of frame.now) depth place at callee }
+    ensures { result ≡ call_walked_at (frame_of frame.now) depth place.now at callee }
 {
     let outline = frame.outline;
     if outline.functions <= callee {
@@ -172,7 +203,7 @@ fn call(frame: &Frame, place: Place, depth: usize, at: usize, callee: u8) -> Res
             demand: Demand::Only(kind(kinds, guard, i)),
             fault: Fault::InArgument,
         };
-        next = check(frame, argument, depth, next)?;
+        next = check(frame, &argument, depth, next)?;
     }
     Ok(next)
 }

@@ -110,7 +110,7 @@ fn check_body(frame: &Frame) -> Result<(), Refusal>
         )),
         fault: Fault::InResult,
     };
-    let end = expression::check(frame, place, syntax::MOST_DEPTH as usize, 0)?;
+    let end = expression::check(frame, &place, syntax::MOST_DEPTH as usize, 0)?;
     if end == frame.body.len() {
         Ok(())
     } else {

@@ -1,5 +1,5 @@
 // The words that memories are made of: bytes in hexadecimal, cells in decimal.
-ghost use Rattle.std.specs.Prelude.{◌<◌, ◌-◌, IfSome, length, take};
+ghost use Rattle.std.specs.Prelude.{◌≡◌, ◌<◌, ◌+◌, ◌-◌, cond, ltb, IfSome, length, take};
 ghost use Rattle.script.specs.{IsDecimal};
 
 use std::io;
@@ -37,8 +37,9 @@ impl Word for u8 {
         }
     }
 
+    // Both digits in one write: a format would write the zero before a single digit by itself.
     fn print<W: Write>(self, writer: &mut W) -> io::Result<()> {
-        write!(writer, "{self:02X}")
+        writer.write_all(&[figure(self / 16), figure(self % 16)])
     }
 }
 
@@ -67,6 +68,18 @@ fn digit(byte: u8) -> Option<u8>
         b'0'..=b'9' => Some(byte - b'0'),
         b'A'..=b'F' => Some(byte - b'A' + 10),
         _ => None,
+    }
+}
+
+// The hexadecimal digit of a value.
+fn figure(value: u8) -> u8
+    requires { value < 16 }
+    ensures { result ≡ cond (ltb value 10) (value + 48) (value + 55) }
+{
+    if value < 10 {
+        b'0' + value
+    } else {
+        b'A' + (value - 10)
     }
 }
 

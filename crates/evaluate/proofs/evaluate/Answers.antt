@@ -1,6 +1,6 @@
 -- `evaluate` meets its contract: a refusal, or the verdict of a settled evaluation, with demand 3.
 use Rattle.std.proofs.lemmas.Result.{err_from_is_err_and}
-use Rattle.prepare.specs.Settled.{handed_in}
+use Rattle.prepare.specs.Checks.{handed_in}
 use Rattle.prepare.proofs.Preparing.{IsSettled-placed}
 use Rattle.evaluate.proofs.Evaluating.{evaluate_refused, evaluate_prepared}
 use Rattle.evaluate.proofs.evaluate.Goals as goal
@@ -13,7 +13,7 @@ returns-in_err-ready c =
     record { answer = rw (p.1, p.2) owed.answer; numbers = rw (p.1, p.2) owed.numbers; cells = owed.cells; decides = rw (p.1, p.2) owed.decides }
 
 pub decide-requires : goal.decide-requires
-decide-requires c = IsSettled-placed c.in_ok-ready.ensures.cells c.in_ok-ready.ensures.settled
+decide-requires c = IsSettled-placed c.in_ok-ready.ensures.placed c.in_ok-ready.ensures.settled
 
 pub returns : goal.returns
 returns c =
@@ -21,5 +21,5 @@ returns c =
     let ready = c.in_ok-ready.ensures in
     let done = c.decide.ensures in
     let owed =
-    evaluate_prepared a.program.now (handed_in a.handed) a.table.now ready.check ready.cells done.verdict done.cells in
+    evaluate_prepared a.program.now (handed_in a.handed) a.table.now ready.check ready.placed done.verdict done.cells in
     record { answer = owed.answer; numbers = owed.numbers; cells = owed.cells; decides = owed.decides }

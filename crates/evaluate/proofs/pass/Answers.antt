@@ -1,6 +1,6 @@
 -- `pass` meets its contract: a refusal, or one pass of a settled evaluation.
 use Rattle.std.proofs.lemmas.Result.{err_from_is_err_and}
-use Rattle.prepare.specs.Settled.{handed_in}
+use Rattle.prepare.specs.Checks.{handed_in}
 use Rattle.prepare.proofs.Preparing.{IsSettled-placed}
 use Rattle.evaluate.proofs.Evaluating.{pass-refused, pass_prepared}
 use Rattle.evaluate.proofs.pass.Goals as goal
@@ -13,7 +13,7 @@ returns-in_err-ready c =
     record { answer = rw (p.1, p.2) owed.answer; numbers = rw (p.1, p.2) owed.numbers; cells = owed.cells }
 
 pub pass_once-requires : goal.pass_once-requires
-pass_once-requires c = IsSettled-placed c.in_ok-ready.ensures.cells c.in_ok-ready.ensures.settled
+pass_once-requires c = IsSettled-placed c.in_ok-ready.ensures.placed c.in_ok-ready.ensures.settled
 
 pub returns : goal.returns
 returns c =
@@ -21,5 +21,5 @@ returns c =
     let ready = c.in_ok-ready.ensures in
     let done = c.pass_once.ensures in
     let owed =
-    pass_prepared a.program.now (handed_in a.handed) a.table.now ready.check ready.cells done.stored done.cells in
+    pass_prepared a.program.now (handed_in a.handed) a.table.now ready.check ready.placed done.stored done.cells in
     record { answer = owed.answer; numbers = owed.numbers; cells = owed.cells }

@@ -2,7 +2,7 @@ use Rattle.std.proofs.Common.{◌≡◌, ℕ, sym, ap, ◌∙◌, inl, inr, ⊎_
 use Rattle.codes.specs.{shifted_code}
 use Rattle.evaluator.specs.{eval_word, branch_at, call_at, call_one_at, call_leaves_at}
 use Rattle.evaluator.proofs.EvalWays.{apart_above, eval_deep, eval_sort, eval_other, branch_taken, branch_kept, along_start, along_end, along_stop, along_more, function_at_lem, param_at_lem, args_count, call_with_lem, working_plain, working_guard, lookup_is}
-use Rattle.evaluator.proofs.NodeMeaning.{leaf_taken}
+use Rattle.evaluator.proofs.NodeMeaning.{leaf_taken, param_leaf_found}
 use Rattle.evaluator.proofs.+branch_call_call_one_eval_operand.Goals as goal
 
 pub eval-returns-then-depth-eq0 : goal.eval-returns-then-depth-eq0
@@ -80,7 +80,7 @@ pub branch-returns-in-None : goal.branch-returns-in-None
 branch-returns-in-None t c = sym (branch_kept _ _ _ _ _ _ c.args.chosen (sym c.branch_of.ensures ∙ c.in-None.is))
 
 pub operand-returns-in-Some : goal.operand-returns-in-Some
-operand-returns-in-Some t c = sym (leaf_taken _ _ _ _ _ _ c.if-depth-eq0.false (sym c.leaf.ensures ∙ c.in-Some.is))
+operand-returns-in-Some t c = sym (leaf_taken _ _ _ _ _ _ c.if-depth-eq0.false (param_leaf_found _ _ _ (sym c.param_leaf.ensures ∙ c.in-Some.is)))
 
 pub call_one-returns : goal.call_one-returns
 unfolding call_one_at

@@ -1,7 +1,7 @@
 -- `follow` meets its contract: a refusal, or what following a settled program that only loops comes to, with what is owed of it.
 use Rattle.std.proofs.Common.{arith}
 use Rattle.std.proofs.lemmas.Result.{err_from_is_err_and}
-use Rattle.prepare.specs.Settled.{handed_in}
+use Rattle.prepare.specs.Checks.{handed_in}
 use Rattle.prepare.proofs.Preparing.{own}
 use Rattle.follow.proofs.Answers.{program_refused, elsewhere_refused, places_agree, settled_here, follow_refused, follow_prepared}
 use Rattle.follow.proofs.follow.Goals as goal

@@ -3,7 +3,7 @@ use Rattle.std.proofs.Common.{◌≡◌, ℕ, ◌^◌, ◌<◌, ◌≤◌, lengt
 use Rattle.trace.specs.{bytes_for}
 use Rattle.semantics.specs.declared.Sort.{Sort}
 use Rattle.semantics.specs.declared.Sort.TheVariants.{One, Two}
-use Rattle.prepare.specs.Settled.{handed_in}
+use Rattle.prepare.specs.Checks.{handed_in}
 use Rattle.rule.specs.Form.{AreBytes}
 use Rattle.record.specs.Recording.{record_of}
 use Rattle.record.specs.Steps.{beside_bytes}

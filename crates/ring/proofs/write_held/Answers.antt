@@ -10,13 +10,13 @@ loop-i-init c = into_start c.args.out.now
 
 pub loop-i-preserved : goal.loop-i-preserved
 loop-i-preserved c =
-    let over = going_round c.args.slots.now c.args.ring c.into_iter-i-iterator.result (cc) (cc) (cc) (cc) (cc) (cc) in
+    let over = going_round c.args.slots.now c.args.ring c.into_iter-i-iterator.result (cc) (cc) (cc) (cc) (cc) in
     let at = YieldsList-turn over c.loop-i.yielded _ c.loop-i.yielded_by _ _ (c.in-Some.i, c.in-Some.byte) c.in-Some.is c.next.ensures.steps in
     rw (length_push c.loop-i.yielded (c.in-Some.i, c.in-Some.byte))
     (written_more c.args.slots.now c.args.ring c.args.out.now c.requires c.loop-i.invariant at c.write.ensures)
 
 pub returns : goal.returns
 returns c =
-    let over = going_round c.args.slots.now c.args.ring c.into_iter-i-iterator.result (cc) (cc) (cc) (cc) (cc) (cc) in
+    let over = going_round c.args.slots.now c.args.ring c.into_iter-i-iterator.result (cc) (cc) (cc) (cc) (cc) in
     let end = YieldsList-end over c.loop-i.yielded _ c.loop-i.yielded_by _ _ c.in-None.is c.next.ensures.steps in
     written_end c.args.slots.now c.args.ring c.args.out.now c.requires end.1 c.loop-i.invariant

@@ -1,14 +1,17 @@
--- `check` and `call` meet their contracts. A node takes 2 of the measure, which is the depth left.
+-- `check`, `operand` and `call` meet their contracts. A node takes 2 of the measure, which is the depth left.
 use Prim.Native.Nat.{◌+◌, ◌-◌, ◌*◌}
 use Rattle.rule.specs.Walk.{frame_of, check_at}
 use Rattle.rule.proofs.Walking.{Down, Along}
-use Rattle.rule.proofs.expression.+call_check.Given as goal
+use Rattle.rule.proofs.expression.+call_check_operand.Given as goal
 
 abbrev pub decreases-call : goal.decreases-call
 decreases-call l = l.depth * 2 + 1
 
 abbrev pub decreases-check : goal.decreases-check
 decreases-check l = l.depth * 2
+
+abbrev pub decreases-operand : goal.decreases-operand
+decreases-operand l = l.depth * 2 + 1
 
 abbrev pub invariant-check-loop-at : goal.invariant-check-loop-at
 invariant-check-loop-at l = Down (frame_of l.frame) l.fn.depth l.fn.place l.fn.at l.depth l.place l.at

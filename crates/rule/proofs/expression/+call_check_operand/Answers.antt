@@ -1,9 +1,11 @@
-use mathlib.Core.Path.{refl, sym, ◌∙◌}
+use mathlib.Core.Path.{refl, sym, ap, ◌∙◌}
 use mathlib.Core.Logic.{inl, inr}
 use Rattle.refusal.proofs.Checks.{handed_on}
+use Rattle.semantics.specs.declared.Kind.TheVariants.{List as list}
+use Rattle.semantics.specs.declared.Demand.TheVariants.{Only as only}
 use Rattle.rule.specs.Walk.{call_walked_at}
-use Rattle.rule.proofs.Walking.{down_end, down_deep, down_node, down_on, call_none, call-not, call-args, along_end, along_stop, along_more}
-use Rattle.rule.proofs.expression.+call_check.Goals as goal
+use Rattle.rule.proofs.Walking.{check_node, down_end, down_deep, down_node, down_on, call_none, call-not, call-args, along_end, along_stop, along_more}
+use Rattle.rule.proofs.expression.+call_check_operand.Goals as goal
 
 pub call-returns-then-outline-callee : goal.call-returns-then-outline-callee
 call-returns-then-outline-callee t c = call_none _ _ _ _ _ c.if-outline-callee.true
@@ -61,24 +63,33 @@ check-loop-at-preserved-in-Head t c = elim c.in-Head.is [
   | inr e ↦ down_on c.loop-at.invariant c.if-frame-at.false c.if-depth-eq0.false c.node_of.ensures e (simp (sym c.allows.ensures ∙ c.if-not-allows.false))
 ]
 
-pub check-returns-then-allows : goal.check-returns-then-allows
-check-returns-then-allows t c = down_node c.loop-at.invariant c.if-frame-at.false c.if-depth-eq0.false c.node_of.ensures c.in-Tail.is (simp (sym c.allows-in-Tail.ensures ∙ c.if-allows.true, c.apart-then-allows.ensures))
+pub check-returns-in-Only-Truth : goal.check-returns-in-Only-Truth
+check-returns-in-Only-Truth t c = down_node c.loop-at.invariant c.if-frame-at.false c.if-depth-eq0.false c.node_of.ensures c.in-Tail.is
+    (simp (c.in-Only-Truth.is ∙ ap only (rw c.in-Only-Truth.is at c.in-Only-Truth.field-0-is), c.apart-in-Only-Truth.ensures))
 
-pub check-loop-at-preserved-in-Tail : goal.check-loop-at-preserved-in-Tail
-check-loop-at-preserved-in-Tail t c = down_on c.loop-at.invariant c.if-frame-at.false c.if-depth-eq0.false c.node_of.ensures c.in-Tail.is (simp (sym c.allows-in-Tail.ensures ∙ c.if-allows.false))
+pub check-loop-at-preserved-in-Only-List-Ram : goal.check-loop-at-preserved-in-Only-List-Ram
+check-loop-at-preserved-in-Only-List-Ram t c = down_on c.loop-at.invariant c.if-frame-at.false c.if-depth-eq0.false c.node_of.ensures c.in-Tail.is
+    (simp (c.in-Only-List-Ram.is ∙ ap only (rw c.in-Only-List-Ram.is at c.in-Only-List-Ram.field-0-is ∙ ap list (rw (c.in-Only-List-Ram.is, rw c.in-Only-List-Ram.is at c.in-Only-List-Ram.field-0-is) at c.in-Only-List-Ram.field-0-0-is))))
+
+pub check-loop-at-preserved-in-Only-List-Guard : goal.check-loop-at-preserved-in-Only-List-Guard
+check-loop-at-preserved-in-Only-List-Guard t c = down_on c.loop-at.invariant c.if-frame-at.false c.if-depth-eq0.false c.node_of.ensures c.in-Tail.is
+    (simp (c.in-Only-List-Guard.is ∙ ap only (rw c.in-Only-List-Guard.is at c.in-Only-List-Guard.field-0-is ∙ ap list (rw (c.in-Only-List-Guard.is, rw c.in-Only-List-Guard.is at c.in-Only-List-Guard.field-0-is) at c.in-Only-List-Guard.field-0-0-is))))
+
+pub check-loop-at-preserved-in-AnyList : goal.check-loop-at-preserved-in-AnyList
+check-loop-at-preserved-in-AnyList t c = down_on c.loop-at.invariant c.if-frame-at.false c.if-depth-eq0.false c.node_of.ensures c.in-Tail.is (simp c.in-AnyList.is)
 
 pub check-returns-in_err-second-in-If : goal.check-returns-in_err-second-in-If
 check-returns-in_err-second-in-If t c =
-    handed_on _ c.from_residual.ensures.1 ∙ down_node c.loop-at.invariant c.if-frame-at.false c.if-depth-eq0.false c.node_of.ensures c.in-If.is (sym (rw (sym c.check.ensures ∙ c.in_err-second-in-If.was)))
+    handed_on _ c.from_residual.ensures.1 ∙ down_node c.loop-at.invariant c.if-frame-at.false c.if-depth-eq0.false c.node_of.ensures c.in-If.is (sym (rw (sym c.operand.ensures ∙ c.in_err-second-in-If.was)))
 
 pub check-returns-in_err-at-in-If : goal.check-returns-in_err-at-in-If
 check-returns-in_err-at-in-If t c =
     handed_on _ c.from_residual-in_err-at-in-If.ensures.1 ∙ down_node c.loop-at.invariant c.if-frame-at.false c.if-depth-eq0.false c.node_of.ensures c.in-If.is
-    (sym (rw (sym c.check.ensures ∙ c.in_ok-second-in-If.was, sym c.check-in-If.ensures ∙ c.in_err-at-in-If.was)))
+    (sym (rw (sym c.operand.ensures ∙ c.in_ok-second-in-If.was, sym c.operand-in-If.ensures ∙ c.in_err-at-in-If.was)))
 
 pub check-loop-at-preserved : goal.check-loop-at-preserved
 check-loop-at-preserved t c = down_on c.loop-at.invariant c.if-frame-at.false c.if-depth-eq0.false c.node_of.ensures c.in-If.is
-    (rw (sym c.check.ensures ∙ c.in_ok-second-in-If.was, sym c.check-in-If.ensures ∙ c.in_ok-at-in-If.was))
+    (rw (sym c.operand.ensures ∙ c.in_ok-second-in-If.was, sym c.operand-in-If.ensures ∙ c.in_ok-at-in-If.was))
 
 pub check-returns-in-Cons : goal.check-returns-in-Cons
 check-returns-in-Cons t c = down_node c.loop-at.invariant c.if-frame-at.false c.if-depth-eq0.false c.node_of.ensures c.in-Cons.is refl
@@ -89,3 +100,15 @@ check-returns-in-Call t c = down_node c.loop-at.invariant c.if-frame-at.false c.
 
 pub check-returns-in-Unknown : goal.check-returns-in-Unknown
 check-returns-in-Unknown t c = down_node c.loop-at.invariant c.if-frame-at.false c.if-depth-eq0.false c.node_of.ensures c.in-Unknown.is refl
+
+pub operand-returns-in-False : goal.operand-returns-in-False
+operand-returns-in-False t c = elim c.in-False.is [
+  | inl e ↦ check_node _ _ _ _ c.if-at-frame.true c.if-depth-ne0.true c.node_of.ensures e c.leaf.ensures
+  | inr e ↦ check_node _ _ _ _ c.if-at-frame.true c.if-depth-ne0.true c.node_of.ensures e c.leaf.ensures
+]
+
+pub operand-returns-in-Empty : goal.operand-returns-in-Empty
+operand-returns-in-Empty t c = check_node _ _ _ _ c.if-at-frame.true c.if-depth-ne0.true c.node_of.ensures c.in-Empty.is c.leaf-in-Empty.ensures
+
+pub operand-returns-in-Param : goal.operand-returns-in-Param
+operand-returns-in-Param t c = check_node _ _ _ _ c.if-at-frame.true c.if-depth-ne0.true c.node_of.ensures c.in-Param.is c.param.ensures
