@@ -1,21 +1,21 @@
 -- Laws of what a ring holds, of any slots and any state that is sound:
 --   length-held                  as many samples as the state counts
---   held_bytes                   the bytes that they are read from
+--   last_slots, held_bytes       the bytes that they are read from
 --   held_new                     a new ring holds none
 --   held_step                    adding a sample: the last of what was held and the new one
 use mathlib.Core.Path.{◌≡◌, refl, sym, ap, ◌∙◌}
 use mathlib.Core.Bool.{Bool, true, false}
 use mathlib.Core.List.{List, [], ◌∷◌, ◌++◌, map}
-use Prim.Native.Nat.{ℕ, ◌-◌, ◌≤◌, min}
+use Prim.Native.Nat.{ℕ, ◌-◌, ◌<◌, min}
 use native.Mathlib.Omega.{arith}
 use lib.ListN.{length, set, take, drop, length-map, length-append, length-take, length-drop}
-use Rattle.std.proofs.lemmas.List.{take_all, take-map, drop-map, drop-take, map-append, map-set}
+use Rattle.std.proofs.lemmas.List.{take_all, take-map, drop-map, map-append, map-set}
 use lib.Seq.{drop-length}
 use Rattle.trace.specs.{digit}
 use Rattle.ring.specs.declared.Ring.{Ring}
 use Rattle.ring.specs.{new_ring, reads, around, last_of, held, sample_byte, stepped}
 use Rattle.ring.specs.Place.{Sound}
-use Rattle.ring.proofs.Round.{drop_parted, length_last, length-around, around-set, last_step}
+use Rattle.ring.proofs.Round.{part_taken, drop_parted, length_last, length-around, around-set, last_step}
 
 reads-digit : (b : Bool) → reads (digit b) ≡ b
 reads-digit false = refl
@@ -45,22 +45,23 @@ oldest_first slots ring =
     take (length (later slots ring) - passed_over slots ring) (drop (passed_over slots ring) (later slots ring))
     ++ take (ring.next - first_before slots ring) (drop (first_before slots ring) slots)
 
-pub held_bytes : (slots : List ℕ) (ring : Ring) → Sound (length slots) ring → held slots ring ≡ map reads (oldest_first slots ring)
-unfolding held last_of around oldest_first
-held_bytes slots ring s =
-    let n = length slots - ring.count in
-    let k = first_before slots ring in
+-- they are the last of all slots, going round from the next place
+pub last_slots : (slots : List ℕ) (ring : Ring) → drop (length slots - ring.count) (later slots ring ++ take ring.next slots) ≡ oldest_first slots ring
+unfolding oldest_first
+last_slots slots ring =
+    let n = passed_over slots ring in
+    let whole : take (length (later slots ring) - n) (drop n (later slots ring)) ≡ drop n (later slots ring) =
+    take_all (length (later slots ring) - n) (drop n (later slots ring)) (omega (arith, length-drop n (later slots ring))) in
+    drop_parted (length slots - ring.count) (later slots ring) (take ring.next slots) ∙ rw (whole, part_taken (first_before slots ring) ring.next slots) refl
+
+pub held_bytes : (slots : List ℕ) (ring : Ring) → ring.next < length slots → held slots ring ≡ map reads (oldest_first slots ring)
+unfolding held last_of around
+held_bytes slots ring h =
     let l = drop ring.next slots ++ take ring.next slots in
     let size : length l ≡ length slots = omega (arith, length-append (drop ring.next slots) (take ring.next slots), length-drop ring.next slots, length-take ring.next slots) in
     let all : later slots ring ≡ drop ring.next slots = take_all (length slots - ring.next) (drop ring.next slots) (omega (arith, length-drop ring.next slots)) in
-    let whole : take (length (later slots ring) - passed_over slots ring) (drop (passed_over slots ring) (later slots ring)) ≡ drop (passed_over slots ring) (later slots ring) =
-    take_all (length (later slots ring) - passed_over slots ring) (drop (passed_over slots ring) (later slots ring)) (omega (arith, length-drop (passed_over slots ring) (later slots ring))) in
-    let few : k ≤ ring.next = omega (arith, ap length all, length-drop ring.next slots, s.within, s.fits) in
-    let before : take (ring.next - k) (drop k slots) ≡ drop k (take ring.next slots) =
-    sym (ap (λ (m : ℕ). drop k (take m slots)) (omega (arith, few)) ∙ drop-take k (ring.next - k) slots) in
-    let bytes : drop n l ≡ take (length (later slots ring) - passed_over slots ring) (drop (passed_over slots ring) (later slots ring)) ++ take (ring.next - k) (drop k slots) =
-    ap (λ (x : List ℕ). drop n (x ++ take ring.next slots)) (sym all) ∙ drop_parted n (later slots ring) (take ring.next slots) ∙ rw (whole, before) refl in
-    rw (take-map, drop-map, ← map-append, length-map, size, drop-map) (ap (map reads) bytes)
+    rw (take-map, drop-map, ← map-append, length-map, size, drop-map)
+    (ap (λ (x : List ℕ). map reads (drop (length slots - ring.count) (x ++ take ring.next slots))) (sym all) ∙ ap (map reads) (last_slots slots ring))
 
 module _ (slots : List ℕ) (ring : Ring) (sound : Sound (length slots) ring) where
   len : length (map reads slots) ≡ length slots

@@ -1,4 +1,5 @@
 -- Laws of lists that go round, over any element:
+--   part_taken                   a part of a list, taken from either end first
 --   drop_parted                  what is left of two lists one after the other
 --   length_last, last-all        the last k of a list: how many, and all of it
 --   last-append                  only the last of what was there bears on the last of a longer list
@@ -8,17 +9,23 @@
 use mathlib.Core.Path.{◌≡◌, refl, sym, ap, ◌∙◌}
 use mathlib.Core.Bool.{Bool, true, false}
 use mathlib.Core.List.{List, [], ◌∷◌, ◌++◌, append_assoc, append-nil}
-use Prim.Native.Nat.{ℕ, suc, ◌+◌, ◌-◌, ◌<◌, ◌≤◌, min}
+use Prim.Native.Nat.{ℕ, zero, suc, ◌+◌, ◌-◌, ◌<◌, ◌≤◌, min}
 use native.Mathlib.Numerals.{add-one}
 use native.Mathlib.Omega.{arith}
 use lib.Dec.{eqb, leb}
 use lib.ListN.{length, take, drop, set, length-append, length-take, length-drop, length-set}
-use lib.Seq.{drop-cons, drop-length, take-length, drop-append-le, drop-append-add, drop-drop, drop-set-lt, take-suc-set}
+use lib.Seq.{drop-cons, drop-length, take-length, take-nil, drop-append-le, drop-append-add, drop-drop, drop-set-lt, take-suc-set}
 use borrow.Author.Tests.{eqb-true, leb-true, leb-false}
 use Rattle.ring.specs.{around, last_of, following}
 
 module _ {A : Type 0} where
-  -- ---- A list in two parts
+  -- ---- A list in parts
+
+  pub part_taken : (k m : ℕ) (l : List A) → take (m - k) (drop k l) ≡ drop k (take m l)
+  part_taken zero m l = ap (λ (n : ℕ). take n l) (omega arith)
+  part_taken (suc k) zero l = let none : 0 - suc k ≡ 0 = omega arith in rw none refl
+  part_taken (suc k) (suc m) [] = take-nil (suc m - suc k)
+  part_taken (suc k) (suc m) (x ∷ l) = let less : suc m - suc k ≡ m - k = omega arith in rw less (part_taken k m l)
 
   pub drop_parted : (n : ℕ) (a b : List A) → drop n (a ++ b) ≡ drop (min n (length a)) a ++ drop (n - min n (length a)) b
   drop_parted n a b = go (leb n (length a)) refl

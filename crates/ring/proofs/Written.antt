@@ -52,11 +52,11 @@ module _ (slots : List ℕ) (ring : Ring) (out₀ : List ℕ) (pre : Sound (leng
       let at = t.1 ∙ get_or-enumerate_from 0 bytes k (i, byte) h in
       let first : i ≡ 0 + k = ap (λ (p : ℕ × ℕ). p.0) at in
       let place : i ≡ k = omega arith in
-      let bits = held_bytes slots ring pre.0 in
+      let bits = held_bytes slots ring pre.0.within in
       let bit : reads byte ≡ get_or (held slots ring) k false =
       ap reads (ap (λ (p : ℕ × ℕ). p.1) at) ∙ sym (rw bits (get_or-map reads bytes k byte false h)) in
       w ∙ rw (e, place, bit) (into_more out₀ (held slots ring) k (rw (bits, length-map bytes reads) h) room)
 
   pub written_end : {out : List ℕ} {k : ℕ} → k ≡ length (enumerate_from 0 (oldest_first slots ring)) → out ≡ packed_into out₀ (take k (held slots ring))
       → out ≡ packed_into out₀ (held slots ring)
-  written_end {k = k} h e = e ∙ ap (packed_into out₀) (take_all k (held slots ring) (rw (h, length-enumerate_from, held_bytes slots ring pre.0, length-map) (omega arith)))
+  written_end {k = k} h e = e ∙ ap (packed_into out₀) (take_all k (held slots ring) (rw (h, length-enumerate_from, held_bytes slots ring pre.0.within, length-map) (omega arith)))
