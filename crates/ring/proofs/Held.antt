@@ -9,7 +9,7 @@ use mathlib.Core.List.{List, [], ◌∷◌, ◌++◌, map}
 use Prim.Native.Nat.{ℕ, ◌-◌, ◌<◌, min}
 use native.Mathlib.Omega.{arith}
 use lib.ListN.{length, set, take, drop, length-map, length-append, length-take, length-drop}
-use Rattle.std.proofs.lemmas.List.{take_all, take-map, drop-map, map-append, map-set}
+use Rattle.std.proofs.lemmas.List.{take_rest, take-map, drop-map, map-append, map-set}
 use lib.Seq.{drop-length}
 use Rattle.trace.specs.{digit}
 use Rattle.ring.specs.declared.Ring.{Ring}
@@ -49,19 +49,16 @@ oldest_first slots ring =
 pub last_slots : (slots : List ℕ) (ring : Ring) → drop (length slots - ring.count) (later slots ring ++ take ring.next slots) ≡ oldest_first slots ring
 unfolding oldest_first
 last_slots slots ring =
-    let n = passed_over slots ring in
-    let whole : take (length (later slots ring) - n) (drop n (later slots ring)) ≡ drop n (later slots ring) =
-    take_all (length (later slots ring) - n) (drop n (later slots ring)) (omega (arith, length-drop n (later slots ring))) in
-    drop_parted (length slots - ring.count) (later slots ring) (take ring.next slots) ∙ rw (whole, part_taken (first_before slots ring) ring.next slots) refl
+    drop_parted (length slots - ring.count) (later slots ring) (take ring.next slots)
+    ∙ rw (take_rest (later slots ring) (passed_over slots ring), part_taken (first_before slots ring) ring.next slots) refl
 
 pub held_bytes : (slots : List ℕ) (ring : Ring) → ring.next < length slots → held slots ring ≡ map reads (oldest_first slots ring)
 unfolding held last_of around
 held_bytes slots ring h =
     let l = drop ring.next slots ++ take ring.next slots in
     let size : length l ≡ length slots = omega (arith, length-append (drop ring.next slots) (take ring.next slots), length-drop ring.next slots, length-take ring.next slots) in
-    let all : later slots ring ≡ drop ring.next slots = take_all (length slots - ring.next) (drop ring.next slots) (omega (arith, length-drop ring.next slots)) in
     rw (take-map, drop-map, ← map-append, length-map, size, drop-map)
-    (ap (λ (x : List ℕ). map reads (drop (length slots - ring.count) (x ++ take ring.next slots))) (sym all) ∙ ap (map reads) (last_slots slots ring))
+    (ap (λ (x : List ℕ). map reads (drop (length slots - ring.count) (x ++ take ring.next slots))) (sym (take_rest slots ring.next)) ∙ ap (map reads) (last_slots slots ring))
 
 module _ (slots : List ℕ) (ring : Ring) (sound : Sound (length slots) ring) where
   len : length (map reads slots) ≡ length slots
